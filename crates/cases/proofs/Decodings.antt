@@ -1,0 +1,108 @@
+-- Cases of decoding: document 01's order of checks, its unstarred cases, and the traps.
+use Prim.Native.Nat.{ℕ, _*_}
+use mathlib.Core.Path.{_≡_, refl}
+use mathlib.Core.List.{List, [], _∷_, _++_}
+use lib.ListN.{replicate}
+use lib.IntN.{ℤ, pos, negsuc}
+use Rattle.format.specs.Packed.{packing}
+use Rattle.format.specs.Decoding.{checkDecode, decodedOf, decodeOf, decodeInto}
+use Rattle.format.specs.Encoding.{block}
+use Rattle.format.specs.declared.refusals.Checked.the-variants.{No}
+use Rattle.format.specs.declared.refusals.Refusal.the-variants.{BitsWord, BytesLeft, OutputTooShort}
+use Rattle.format.proofs.Made.{document-01, said, read, refused, laid, changed, five}
+
+abbrev small : List ℕ
+small = block (pos 7) (pos 1) 0 (replicate 64 255)
+
+-- mono, 513 frames: a good first group, and this second one
+abbrev second : List ℕ → List ℕ
+second g = laid 1 16 513 [] (small ∷ g ∷ []) []
+
+-- one mono frame at this depth, of this block; one stereo frame of these two
+abbrev mono : ℕ → List ℕ → List ℕ
+mono depth b = laid 1 depth 1 [] (b ∷ []) []
+
+abbrev stereo : ℕ → List ℕ → List ℕ → List ℕ
+stereo depth a b = laid 2 depth 1 [] ((a ++ b) ∷ []) []
+
+-- raw at 32 bits: this value, then zeros
+abbrev raw : ℕ → ℤ → List ℕ
+raw flags z = block (pos 0) (negsuc 31) flags (packing 32 (z ∷ replicate 511 (pos 0)))
+
+-- raw at the depth's own width, which b bits are
+abbrev atDepth : ℕ → List ℕ
+atDepth b = block (pos 9) (pos 0) 0 (replicate (64 * b) 0x81)
+
+pub record Decodings : Type 0 where
+  -- in a block: 1 (header), 3, 20, 21, 4, 1 (values), then 22
+  pub header : said (checkDecode (stereo 16 (block (pos 0) (pos 3) 0 (replicate 192 0)) (replicate 10 0))) ≡ 1
+  pub mark : said (checkDecode (second (changed 0 1 0 (block (pos 0) (pos 33) 3 (replicate 64 0))))) ≡ 3
+  pub float : said (checkDecode (second (block (pos 0) (pos 33) 3 (replicate 64 0)))) ≡ 20
+  pub alone : said (checkDecode (second (block (pos 0) (pos 33) 1 (replicate 64 0)))) ≡ 21
+  pub word : checkDecode (second (block (pos 0) (pos 33) 0 (replicate 64 0))) ≡ No (BitsWord (pos 33))
+  pub word-below : checkDecode (second (block (pos 0) (negsuc 32) 0 (replicate 64 0))) ≡ No (BitsWord (negsuc 32))
+  pub word-lowest : checkDecode (second (block (pos 0) (negsuc 32767) 0 (replicate 64 0))) ≡ No (BitsWord (negsuc 32767))
+  pub values : said (checkDecode (second (block (pos 0) (pos 3) 0 (replicate 64 0)))) ≡ 1
+  pub left-over : said (checkDecode (second (block (pos 0) (pos 1) 0 (replicate 65 0)))) ≡ 22
+  -- a first block with bits 33 opens, and decoding refuses 4; a group of 80 bytes: width 1 is read
+  pub bits-33 : said (checkDecode (mono 16 (block (pos 0) (pos 33) 0 (replicate 64 0)))) ≡ 4
+  pub group-80 : decodedOf (mono 16 small) ≡ pos 7 ∷ []
+  -- 1 is against the group's end, not the file's
+  pub group-end : said (checkDecode (laid 1 16 1 [] (block (pos 0) (pos 2) 0 (replicate 64 0) ∷ []) (replicate 64 0))) ≡ 1
+  -- only the first channel's bit 0 decides; mid/side is for two channels; other bits are ignored
+  pub first-decides : decodedOf (stereo 32 (raw 0 (pos 9)) (raw 1 (pos 2))) ≡ pos 9 ∷ pos 2 ∷ []
+  pub first-mid : decodedOf (stereo 32 (raw 1 (pos 9)) (raw 0 (pos 2))) ≡ pos 11 ∷ pos 7 ∷ []
+  pub later-bit : said (checkDecode (laid 3 16 1 [] ((small ++ (changed 10 2 1 small ++ small)) ∷ []) [])) ≡ 0
+  pub three-mid : said (checkDecode (laid 3 16 1 [] ((changed 10 2 1 small ++ (small ++ small)) ∷ []) [])) ≡ 21
+  pub other-bits : said (checkDecode (mono 16 (changed 10 2 0xFFFC small))) ≡ 0
+  -- bits 0 is raw at the file's depth, whatever the base
+  pub depth-8 : decodedOf (mono 8 (atDepth 8)) ≡ negsuc 126 ∷ []
+  pub depth-16 : decodedOf (mono 16 (atDepth 16)) ≡ negsuc 32382 ∷ []
+  pub depth-24 : decodedOf (mono 24 (atDepth 24)) ≡ negsuc 8289918 ∷ []
+  pub depth-32 : decodedOf (mono 32 (atDepth 32)) ≡ negsuc 2122219134 ∷ []
+  -- differences of −1 from the lowest number wrap; no sample is held to the depth
+  pub one-bit : decodedOf (laid 1 16 3 [] (block (negsuc 2147483647) (pos 1) 0 (replicate 64 255) ∷ []) []) ≡ negsuc 2147483647 ∷ pos 2147483647 ∷ pos 2147483646 ∷ []
+  pub any-number : decodedOf (mono 16 (raw 0 (pos 2147483647))) ≡ pos 2147483647 ∷ []
+  -- mid and side both −2147483648, raw at 32: read as 0, 0
+  pub lowest-pair : decodedOf (stereo 16 (raw 1 (negsuc 2147483647)) (raw 0 (negsuc 2147483647))) ≡ pos 0 ∷ pos 0 ∷ []
+  -- 50 comes last; a refusal changes nothing, and what lies after the samples stays
+  pub room-enough : decodeOf five 1 ≡ read 1
+  pub room-short : decodeOf five 0 ≡ refused OutputTooShort
+  pub room-last : decodeOf (second (block (pos 0) (pos 1) 0 (replicate 65 0))) 0 ≡ refused BytesLeft
+  pub kept : decodeInto (second (block (pos 0) (pos 1) 0 (replicate 65 0))) (pos 1 ∷ pos 2 ∷ []) ≡ pos 1 ∷ pos 2 ∷ []
+  pub after : decodeInto five (pos 1 ∷ pos 2 ∷ []) ≡ pos 5 ∷ pos 2 ∷ []
+
+pub decodings : Decodings
+unfolding document-01
+decodings =
+    record {
+      header = refl;
+      mark = refl;
+      float = refl;
+      alone = refl;
+      word = refl;
+      word-below = refl;
+      word-lowest = refl;
+      values = refl;
+      left-over = refl;
+      bits-33 = refl;
+      group-80 = refl;
+      group-end = refl;
+      first-decides = refl;
+      first-mid = refl;
+      later-bit = refl;
+      three-mid = refl;
+      other-bits = refl;
+      depth-8 = refl;
+      depth-16 = refl;
+      depth-24 = refl;
+      depth-32 = refl;
+      one-bit = refl;
+      any-number = refl;
+      lowest-pair = refl;
+      room-enough = refl;
+      room-short = refl;
+      room-last = refl;
+      kept = refl;
+      after = refl;
+    }

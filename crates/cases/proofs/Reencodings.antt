@@ -1,0 +1,206 @@
+-- Cases of re-encoding: document 01's order of checks, its unstarred case, and the traps.
+use Prim.Native.Nat.{ℕ}
+use mathlib.Core.Path.{_≡_, refl}
+use mathlib.Core.List.{List, [], _∷_, _++_}
+use lib.ListN.{take, replicate}
+use lib.IntN.{ℤ, pos, negsuc}
+use Rattle.format.specs.Packed.{packing}
+use Rattle.format.specs.Decoding.{decodedOf}
+use Rattle.format.specs.Encoding.{block, fileOf}
+use Rattle.format.specs.Reencoding.{checkReencode, refileOf, reencodeOf, reencodeInto}
+use Rattle.format.specs.declared.refusals.Checked.the-variants.{No}
+use Rattle.format.specs.declared.refusals.Refusal.the-variants.{BitsWord, OutputTooShort}
+use Rattle.format.specs.declared.settings.StereoMode.the-variants.{MidSide}
+use Rattle.format.proofs.Made.{document-01, said, wrote, refused, pcm, laid, changed, five}
+
+-- the number that re-encoding says for mono samples, for a stereo frame
+abbrev mono : List ℤ → List ℕ → ℕ
+mono s t = said (checkReencode (pcm 1 16) s t)
+
+abbrev stereo : ℤ → ℤ → List ℕ → ℕ
+stereo l r t = said (checkReencode (pcm 2 16) (l ∷ r ∷ []) t)
+
+-- a template of one mono frame whose group is g; of one stereo frame whose blocks are a and b
+abbrev one : List ℕ → List ℕ
+one g = laid 1 16 1 [] (g ∷ []) []
+
+abbrev both : List ℕ → List ℕ → List ℕ
+both a b = laid 2 16 1 [] ((a ++ b) ∷ []) []
+
+-- differences at width 2; raw at width 32, with a padding of its own or of 3
+abbrev small : ℕ → List ℕ
+small flags = block (pos 5) (pos 2) flags (replicate 128 0)
+
+abbrev rawThen : ℤ → ℕ → ℤ → List ℕ
+rawThen padding flags z = block (pos 77) (negsuc 31) flags (packing 32 (z ∷ replicate 511 padding))
+
+abbrev raw : ℕ → ℤ → List ℕ
+raw = rawThen (pos 3)
+
+-- mid and side both −2147483648
+abbrev lowest : List ℕ
+lowest = both (rawThen (pos 3) 1 (negsuc 2147483647)) (rawThen (pos 3) 0 (negsuc 2147483647))
+
+-- twelve zeros, but for the flags
+abbrev twelve : ℕ → List ℕ
+twelve flags = changed 10 2 flags (replicate 12 0)
+
+-- two groups of 80 bytes: 513 mono frames, table at 120, data at 132
+abbrev twoGroups : List ℕ
+twoGroups = laid 1 16 513 [] (block (pos 5) (negsuc 0) 0 (replicate 64 0) ∷ block (pos 5) (negsuc 0) 0 (replicate 64 0) ∷ []) []
+
+abbrev zeros : List ℤ
+zeros = replicate 513 (pos 0)
+
+-- five with more and more faults, from the last check of the template to the first
+abbrev f42 : List ℕ
+f42 = changed 120 4 1 five
+
+abbrev f41 : List ℕ
+f41 = take 271 f42
+
+abbrev f40 : List ℕ
+f40 = changed 12 4 48000 f41
+
+abbrev f2 : List ℕ
+f2 = changed 0 1 0 f40
+
+-- differences at width 3: the last is 3, the padding word and the base are any
+abbrev worn : List ℕ
+worn = changed 12 4 0xDEADBEEF (block (pos 5) (pos 3) 0 (packing 3 ((pos 1 ∷ replicate 510 (pos 0)) ++ (pos 3 ∷ []))))
+
+abbrev wornAfter : List ℕ
+wornAfter = changed 12 4 0xDEADBEEF (block (pos 4) (pos 3) 0 (packing 3 ((pos 2 ∷ replicate 510 (pos 0)) ++ (pos 3 ∷ []))))
+
+pub record Reencodings : Type 0 where
+  -- the call's own checks first: 30 to 33; then 1, 2, 40, 41, 42
+  pub spec : said (checkReencode (pcm 3 16) (pos 40000 ∷ []) (take 119 f2)) ≡ 30
+  pub frame : said (checkReencode (pcm 2 16) (pos 40000 ∷ []) (take 119 f2)) ≡ 31
+  pub value : said (checkReencode (pcm 1 16) (pos 40000 ∷ []) (take 119 f2)) ≡ 32
+  pub short : mono (pos 5 ∷ []) (take 119 f2) ≡ 1
+  pub signature : mono (pos 5 ∷ []) f2 ≡ 2
+  pub rate : mono (pos 5 ∷ []) f40 ≡ 40
+  pub bounds : mono (pos 5 ∷ []) f41 ≡ 41
+  pub offsets : mono (pos 5 ∷ []) f42 ≡ 42
+  pub fine : mono (pos 5 ∷ []) five ≡ 0
+  -- 40: channels, depth, frames too
+  pub channels : said (checkReencode (pcm 2 16) (pos 5 ∷ pos 5 ∷ []) five) ≡ 40
+  pub depth : said (checkReencode (pcm 1 24) (pos 5 ∷ []) five) ≡ 40
+  pub frames : mono (pos 5 ∷ pos 5 ∷ []) five ≡ 40
+  pub depth-8 : mono (pos 5 ∷ []) (changed 10 2 8 five) ≡ 40
+  -- 41: table offset, data offset, their distance
+  pub table-119 : mono (pos 5 ∷ []) (changed 20 4 119 five) ≡ 41
+  pub data-before : mono (pos 5 ∷ []) (changed 24 4 119 five) ≡ 41
+  pub distance : mono (pos 5 ∷ []) (changed 24 4 132 five) ≡ 41
+  -- 42: strictly rising from 0 to the data size, in an empty file too
+  pub last-entry : mono (pos 5 ∷ []) (changed 124 4 143 five) ≡ 42
+  pub empty-group : mono zeros (changed 124 4 0 twoGroups) ≡ 42
+  pub falling : mono zeros (changed 124 4 161 twoGroups) ≡ 42
+  pub no-frames : mono [] (changed 120 4 9 (changed 28 4 9 (laid 1 16 0 [] [] (replicate 9 0)))) ≡ 42
+  pub none : mono [] (laid 1 16 0 [] [] []) ≡ 0
+  -- 43 under 12 bytes; the flags are looked at before 1 and 3
+  pub eleven : mono (pos 5 ∷ []) (one (replicate 11 0)) ≡ 43
+  pub twelve-plain : mono (pos 5 ∷ []) (one (twelve 0)) ≡ 1
+  pub twelve-mid : mono (pos 5 ∷ []) (one (twelve 1)) ≡ 34
+  pub mark-mid : mono (pos 5 ∷ []) (one (changed 0 1 0 (small 1))) ≡ 34
+  pub mark : mono (pos 5 ∷ []) (one (changed 0 1 0 (block (pos 0) (pos 0) 2 []))) ≡ 3
+  pub flags-3-odd : stereo (pos 5) (pos 6) (both (small 3) (small 0)) ≡ 35
+  pub flags-3-even : stereo (pos 5) (pos 5) (both (small 3) (small 0)) ≡ 45
+  -- 44 before 45 before 4 before 1 (values); 46 after the channels
+  pub bits-0 : mono (pos 5 ∷ []) (one (block (pos 5) (pos 0) 2 [])) ≡ 44
+  pub bits-1 : mono (pos 5 ∷ []) (one (block (pos 5) (pos 1) 2 [])) ≡ 44
+  pub flags-2 : mono (pos 5 ∷ []) (one (block (pos 5) (pos 33) 2 [])) ≡ 45
+  pub word : checkReencode (pcm 1 16) (pos 5 ∷ []) (one (block (pos 5) (pos 33) 0 [])) ≡ No (BitsWord (pos 33))
+  pub values : mono (pos 9 ∷ []) (one (block (pos 5) (pos 2) 0 (replicate 127 0))) ≡ 1
+  pub does-not-fit : mono (pos 9 ∷ []) (one (small 0 ++ (0 ∷ []))) ≡ 36
+  pub left-over : mono (pos 5 ∷ []) (one (small 0 ++ (0 ∷ []))) ≡ 46
+  -- the difference from the last active to the first padded sample is determined by the samples
+  pub four : mono (pos 4 ∷ []) five ≡ 0
+  pub six : mono (pos 6 ∷ []) five ≡ 0
+  pub seven : mono (pos 7 ∷ []) five ≡ 0
+  pub three : mono (pos 3 ∷ []) five ≡ 36
+  pub four-back : decodedOf (refileOf (pos 4 ∷ []) five) ≡ pos 4 ∷ []
+  -- bits −1 is accepted: raw at width 1
+  pub minus-1 : mono zeros twoGroups ≡ 0
+  -- what stays: the padding word, the padded samples, the last difference; the base of a raw block
+  pub stays : refileOf (pos 4 ∷ []) (one worn) ≡ one wornAfter
+  pub raw-stays : refileOf (pos 9 ∷ []) (one (raw 0 (pos 1))) ≡ one (raw 0 (pos 9))
+  -- the second block's flag stays and decides nothing; the other signature stays; bytes around stay
+  pub second-flag : refileOf (pos 4 ∷ pos 6 ∷ []) (both (raw 0 (pos 1)) (raw 1 (pos 2))) ≡ both (raw 0 (pos 4)) (raw 1 (pos 6))
+  pub signature-30 : refileOf (pos 5 ∷ []) (changed 4 1 0x30 five) ≡ changed 4 1 0x30 five
+  pub around : refileOf (pos 5 ∷ []) (laid 1 16 1 (1 ∷ 2 ∷ []) (small 0 ∷ []) (3 ∷ [])) ≡ laid 1 16 1 (1 ∷ 2 ∷ []) (small 0 ∷ []) (3 ∷ [])
+  -- mid/side by the first block's flag; parity
+  pub pair-back : decodedOf (refileOf (pos 4 ∷ pos 6 ∷ []) (fileOf (pcm 2 16) MidSide (pos 3 ∷ pos 5 ∷ []))) ≡ pos 4 ∷ pos 6 ∷ []
+  pub pair-odd : stereo (pos 4) (pos 5) (fileOf (pcm 2 16) MidSide (pos 3 ∷ pos 5 ∷ [])) ≡ 35
+  -- a template with its own samples is itself, but for a mid/side pair that left 32 bits
+  pub same-again : refileOf (pos 5 ∷ []) five ≡ five
+  pub lowest-accepted : stereo (pos 0) (pos 0) lowest ≡ 0
+  pub lowest-reads : decodedOf lowest ≡ pos 0 ∷ pos 0 ∷ []
+  pub lowest-moves : refileOf (pos 0 ∷ pos 0 ∷ []) lowest ≡ both (raw 1 (pos 0)) (raw 0 (pos 0))
+  -- 50: the template's length
+  pub room : reencodeOf (pcm 1 16) (pos 5 ∷ []) five 272 ≡ wrote 272
+  pub room-short : reencodeOf (pcm 1 16) (pos 5 ∷ []) five 271 ≡ refused OutputTooShort
+  pub kept : reencodeInto (pcm 1 16) (pos 3 ∷ []) five (replicate 272 7) ≡ replicate 272 7
+  pub after : reencodeInto (pcm 1 16) (pos 5 ∷ []) five (replicate 273 7) ≡ five ++ (7 ∷ [])
+
+pub reencodings : Reencodings
+unfolding document-01
+reencodings =
+    record {
+      spec = refl;
+      frame = refl;
+      value = refl;
+      short = refl;
+      signature = refl;
+      rate = refl;
+      bounds = refl;
+      offsets = refl;
+      fine = refl;
+      channels = refl;
+      depth = refl;
+      frames = refl;
+      depth-8 = refl;
+      table-119 = refl;
+      data-before = refl;
+      distance = refl;
+      last-entry = refl;
+      empty-group = refl;
+      falling = refl;
+      no-frames = refl;
+      none = refl;
+      eleven = refl;
+      twelve-plain = refl;
+      twelve-mid = refl;
+      mark-mid = refl;
+      mark = refl;
+      flags-3-odd = refl;
+      flags-3-even = refl;
+      bits-0 = refl;
+      bits-1 = refl;
+      flags-2 = refl;
+      word = refl;
+      values = refl;
+      does-not-fit = refl;
+      left-over = refl;
+      four = refl;
+      six = refl;
+      seven = refl;
+      three = refl;
+      four-back = refl;
+      minus-1 = refl;
+      stays = refl;
+      raw-stays = refl;
+      second-flag = refl;
+      signature-30 = refl;
+      around = refl;
+      pair-back = refl;
+      pair-odd = refl;
+      same-again = refl;
+      lowest-accepted = refl;
+      lowest-reads = refl;
+      lowest-moves = refl;
+      room = refl;
+      room-short = refl;
+      kept = refl;
+      after = refl;
+    }

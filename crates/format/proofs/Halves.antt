@@ -1,0 +1,225 @@
+-- Mid and side of samples, and back.
+use mathlib.Core.Path.{_≡_, refl, sym, ap, ap₂, _∙_, subst}
+use mathlib.Core.Bool.{Bool, true, _&&_}
+use mathlib.Core.List.{List, [], _∷_, _++_}
+use Prim.Native.Nat.{ℕ, zero, suc, _+_, _-_, _/_, _%_, _^_, _<_, _≤_}
+use native.Mathlib.Omega.{arith}
+use lib.IntN.{ℤ, pos, negsuc, negℤ, natAbs, _+ℤ_, _-ℤ_}
+use lib.Signed.{mag, quotZ}
+use lib.Pow.{pow-mono, pow-pos}
+use lib.ListN.{length, getD, replicate}
+use mir.Syntax.{w32}
+use mir.Val.{SFits}
+use borrow.Author.Tests.{eqb-true}
+use Rattle.format.specs.Lists.{pairwise, every, lastOr}
+use Rattle.format.specs.Numbers.{plus, wrap32}
+use Rattle.format.specs.MidSide.{left, right}
+use Rattle.format.specs.Encoding.{padded, mid, side, equalParity}
+use Rattle.format.specs.declared.settings.SampleFormat.the-variants.{Pcm}
+use Rattle.format.proofs.Up.{up, up-inj, mag-up, up-low, up-high, up-add, up-sub, up-half}
+use Rattle.format.proofs.Signs.{Holds, AllHold, and-left, and-right}
+use Rattle.format.proofs.Wrap.{wrap-fits, plus-inj}
+
+-- the magnitude of a sum and of a difference
+pub mag-add : (H : ℕ) (a b : ℤ) → H < 2 ^ 38 → mag a < H → mag b < H → mag (a +ℤ b) < H + H
+mag-add H a b h f g =
+    mag-up (H + H) (a +ℤ b) (omega arith) (omega (arith, up-add a b (omega arith) (omega arith), up-low H a f, up-low H b g))
+    (omega (arith, up-add a b (omega arith) (omega arith), up-high H a f, up-high H b g))
+
+pub mag-sub : (H : ℕ) (a b : ℤ) → H < 2 ^ 38 → mag a < H → mag b < H → mag (a -ℤ b) < H + H
+mag-sub H a b h f g =
+    mag-up (H + H) (a -ℤ b) (omega arith) (omega (arith, up-sub a b (omega arith) (omega arith), up-low H a f, up-high H b g))
+    (omega (arith, up-sub a b (omega arith) (omega arith), up-high H a f, up-low H b g))
+
+half-le : (q n : ℕ) → q + q ≤ suc n → mag (negℤ (pos q)) ≤ n
+half-le zero n h = omega arith
+half-le (suc q) n h = omega arith
+
+pub mag-half : (z : ℤ) → mag (quotZ z (pos 2)) ≤ mag z
+mag-half (pos n) = omega arith
+mag-half (negsuc n) = half-le (suc n / 2) n (omega arith)
+
+-- numbers of equal parity have an even sum
+even-sum : (l r : ℤ) → mag l < 2 ^ 38 → mag r < 2 ^ 38 → natAbs l % 2 ≡ natAbs r % 2 → up (l +ℤ r) % 2 ≡ 0
+even-sum (pos m) (pos n) f g e = omega (arith, up-add (pos m) (pos n) f g)
+even-sum (pos m) (negsuc n) f g e = omega (arith, up-add (pos m) (negsuc n) f g)
+even-sum (negsuc m) (pos n) f g e = omega (arith, up-add (negsuc m) (pos n) f g)
+even-sum (negsuc m) (negsuc n) f g e = omega (arith, up-add (negsuc m) (negsuc n) f g)
+
+-- of l and r below H, of equal parity
+module _ (H : ℕ) (top : H ≤ 2 ^ 31) (l r : ℤ) (f : mag l < H) (g : mag r < H) (eq : equalParity l r ≡ true) where
+  even : up (l +ℤ r) % 2 ≡ 0
+  unfolding equalParity
+  even = even-sum l r (omega arith) (omega arith) (eqb-true (natAbs l % 2) (natAbs r % 2) eq)
+
+  mid-small : mag (mid l r) < 2 ^ 38
+  unfolding mid
+  mid-small = omega (arith, mag-half (l +ℤ r), mag-add (2 ^ 31) l r (omega arith) (omega arith) (omega arith))
+
+  side-small : mag (side l r) < 2 ^ 38
+  unfolding side
+  side-small = omega (arith, mag-half (l -ℤ r), mag-sub (2 ^ 31) l r (omega arith) (omega arith) (omega arith))
+
+  mid-twice : up (mid l r) + up (mid l r) ≡ up l + up r
+  unfolding mid
+  mid-twice =
+      let a = up-add l r (omega arith) (omega arith) in
+      let p = mag-add (2 ^ 31) l r (omega arith) (omega arith) (omega arith) in
+      omega (arith, up-half (l +ℤ r) (omega arith) even)
+
+  side-twice : up (side l r) + up (side l r) + up r ≡ up l + 2 ^ 41
+  unfolding side
+  side-twice =
+      let a = up-add l r (omega arith) (omega arith) in
+      let d = up-sub l r (omega arith) (omega arith) in
+      let q = mag-sub (2 ^ 31) l r (omega arith) (omega arith) (omega arith) in
+      let e = even in
+      omega (arith, up-half (l -ℤ r) (omega arith) (omega arith))
+
+  -- they lie in the same range
+  pub mid-range : mag (mid l r) < H
+  mid-range =
+      let e = mid-twice in
+      mag-up H (mid l r) (omega arith) (omega (arith, up-low H l f, up-low H r g)) (omega (arith, up-high H l f, up-high H r g))
+
+  pub side-range : mag (side l r) < H
+  side-range =
+      let e = side-twice in
+      mag-up H (side l r) (omega arith) (omega (arith, up-low H l f, up-high H r g)) (omega (arith, up-high H l f, up-low H r g))
+
+  pub left-back : left Pcm (mid l r) (side l r) ≡ l
+  unfolding left
+  left-back =
+      let m = mid l r in
+      let s = side l r in
+      let a = up-add m s mid-small side-small in
+      let e : m +ℤ s ≡ l = up-inj (m +ℤ s) l (omega (arith, mag-add (2 ^ 31) m s (omega arith) (omega (arith, mid-range)) (omega (arith, side-range)))) (omega arith) (omega (arith, mid-twice, side-twice)) in
+      ap wrap32 e ∙ wrap-fits l (record { sfits = omega arith })
+
+  pub right-back : right Pcm (mid l r) (side l r) ≡ r
+  unfolding right
+  right-back =
+      let m = mid l r in
+      let s = side l r in
+      let a = up-sub m s mid-small side-small in
+      let e : m -ℤ s ≡ r = up-inj (m -ℤ s) r (omega (arith, mag-sub (2 ^ 31) m s (omega arith) (omega (arith, mid-range)) (omega (arith, side-range)))) (omega arith) (omega (arith, mid-twice, side-twice)) in
+      ap wrap32 e ∙ wrap-fits r (record { sfits = omega arith })
+
+-- where mid is the half of the sum, side is that of the difference
+pub side-follows : (H : ℕ) → H ≤ 2 ^ 31 → (l r m s : ℤ) → mag l < H → mag r < H → equalParity l r ≡ true → SFits w32 s → mid l r ≡ m → left Pcm m s ≡ l → side l r ≡ s
+unfolding left
+side-follows H top l r m s f g eq fs em el =
+    let a = mid-range H top l r f g eq in
+    let b = side-range H top l r f g eq in
+    let q : plus (mid l r) (side l r) ≡ plus (mid l r) s = left-back H top l r f g eq ∙ sym el ∙ ap (λ (x : ℤ). plus x s) (sym em) in
+    plus-inj (mid l r) (side l r) s (record { sfits = omega arith }) (record { sfits = omega arith }) fs q
+
+-- ---- the same of two channels
+none-equal : (n : ℕ) → 0 ≡ suc n → ⊥
+none-equal n e = omega arith
+
+same-rest : (m n : ℕ) → suc m ≡ suc n → m ≡ n
+same-rest m n e = omega arith
+
+pub length-pairwise : {A B : Type 0} (g : A → A → B) (xs ys : List A) → length xs ≡ length ys → length (pairwise g xs ys) ≡ length xs
+unfolding pairwise
+length-pairwise g [] ys e = refl
+length-pairwise g (x ∷ xs) [] e = absurd (none-equal _ (sym e))
+length-pairwise g (x ∷ xs) (y ∷ ys) e = ap suc (length-pairwise g xs ys (same-rest _ _ e))
+
+-- every frame has equal parity
+abbrev pub Even : List ℤ → List ℤ → Type 0
+Even l r = every (λ (b : Bool). b) (pairwise equalParity l r) ≡ true
+
+even-head : (x y : ℤ) (l r : List ℤ) → Even (x ∷ l) (y ∷ r) → equalParity x y ≡ true
+unfolding every pairwise
+even-head x y l r e = and-left (equalParity x y) (every (λ (b : Bool). b) (pairwise equalParity l r)) e
+
+even-tail : (x y : ℤ) (l r : List ℤ) → Even (x ∷ l) (y ∷ r) → Even l r
+unfolding every pairwise
+even-tail x y l r e = and-right (equalParity x y) (every (λ (b : Bool). b) (pairwise equalParity l r)) e
+
+module _ (depth : ℕ) (high : depth ≤ 32) where
+  top : 2 ^ (depth - 1) ≤ 2 ^ 31
+  top = pow-mono {j = 31} (omega arith)
+
+  -- what holds of each pair holds of the channels
+  pub pairs-hold : (f : ℤ → ℤ → ℤ) → ((x y : ℤ) → Holds depth x → Holds depth y → equalParity x y ≡ true → Holds depth (f x y))
+      → (l r : List ℤ) → AllHold depth l → AllHold depth r → Even l r → AllHold depth (pairwise f l r)
+  unfolding pairwise
+  pairs-hold f h [] r p q e i = pow-pos (depth - 1)
+  pairs-hold f h (x ∷ l) [] p q e i = pow-pos (depth - 1)
+  pairs-hold f h (x ∷ l) (y ∷ r) p q e zero = h x y (p 0) (q 0) (even-head x y l r e)
+  pairs-hold f h (x ∷ l) (y ∷ r) p q e (suc i) = pairs-hold f h l r (λ j. p (suc j)) (λ j. q (suc j)) (even-tail x y l r e) i
+
+  pub mid-holds : (l r : List ℤ) → AllHold depth l → AllHold depth r → Even l r → AllHold depth (pairwise mid l r)
+  mid-holds = pairs-hold mid (λ x y p q e. mid-range (2 ^ (depth - 1)) top x y p q e)
+
+  pub side-holds : (l r : List ℤ) → AllHold depth l → AllHold depth r → Even l r → AllHold depth (pairwise side l r)
+  side-holds = pairs-hold side (λ x y p q e. side-range (2 ^ (depth - 1)) top x y p q e)
+
+  pub lefts-back : (l r : List ℤ) → length l ≡ length r → AllHold depth l → AllHold depth r → Even l r → pairwise (left Pcm) (pairwise mid l r) (pairwise side l r) ≡ l
+  unfolding pairwise
+  lefts-back [] r n p q e = refl
+  lefts-back (x ∷ l) [] n p q e = absurd (none-equal _ (sym n))
+  lefts-back (x ∷ l) (y ∷ r) n p q e =
+      ap₂ (λ (z : ℤ) (zs : List ℤ). z ∷ zs) (left-back (2 ^ (depth - 1)) top x y (p 0) (q 0) (even-head x y l r e))
+      (lefts-back l r (same-rest _ _ n) (λ j. p (suc j)) (λ j. q (suc j)) (even-tail x y l r e))
+
+  pub rights-back : (l r : List ℤ) → length l ≡ length r → AllHold depth l → AllHold depth r → Even l r → pairwise (right Pcm) (pairwise mid l r) (pairwise side l r) ≡ r
+  unfolding pairwise
+  rights-back [] [] n p q e = refl
+  rights-back [] (y ∷ r) n p q e = absurd (none-equal _ n)
+  rights-back (x ∷ l) [] n p q e = absurd (none-equal _ (sym n))
+  rights-back (x ∷ l) (y ∷ r) n p q e =
+      ap₂ (λ (z : ℤ) (zs : List ℤ). z ∷ zs) (right-back (2 ^ (depth - 1)) top x y (p 0) (q 0) (even-head x y l r e))
+      (rights-back l r (same-rest _ _ n) (λ j. p (suc j)) (λ j. q (suc j)) (even-tail x y l r e))
+
+-- ---- at a frame
+pub pairwise-at : {A B : Type 0} (f : A → A → B) (xs ys : List A) (i : ℕ) (d : A) (z : B) → i < length xs → i < length ys → getD (pairwise f xs ys) i z ≡ f (getD xs i d) (getD ys i d)
+unfolding pairwise
+pairwise-at f [] ys i d z p q = absurd (omega arith)
+pairwise-at f (x ∷ xs) [] i d z p q = absurd (omega arith)
+pairwise-at f (x ∷ xs) (y ∷ ys) zero d z p q = refl
+pairwise-at f (x ∷ xs) (y ∷ ys) (suc i) d z p q = pairwise-at f xs ys i d z (omega arith) (omega arith)
+
+pub even-at : (l r : List ℤ) (i : ℕ) → i < length l → i < length r → Even l r → equalParity (getD l i (pos 0)) (getD r i (pos 0)) ≡ true
+even-at [] r i p q e = absurd (omega arith)
+even-at (x ∷ l) [] i p q e = absurd (omega arith)
+even-at (x ∷ l) (y ∷ r) zero p q e = even-head x y l r e
+even-at (x ∷ l) (y ∷ r) (suc i) p q e = even-at l r i (omega arith) (omega arith) (even-tail x y l r e)
+
+-- ---- padding keeps the parity
+module _ where
+  even-join : (x y : ℤ) (l r : List ℤ) → equalParity x y ≡ true → Even l r → Even (x ∷ l) (y ∷ r)
+  unfolding every pairwise
+  even-join x y l r e f = ap₂ (λ (a b : Bool). a && b) e f
+
+  even-append : (l r a b : List ℤ) → length l ≡ length r → Even l r → Even a b → Even (l ++ a) (r ++ b)
+  even-append [] [] a b n e f = f
+  even-append [] (y ∷ r) a b n e f = absurd (none-equal _ n)
+  even-append (x ∷ l) [] a b n e f = absurd (none-equal _ (sym n))
+  even-append (x ∷ l) (y ∷ r) a b n e f = even-join x y (l ++ a) (r ++ b) (even-head x y l r e) (even-append l r a b (same-rest _ _ n) (even-tail x y l r e) f)
+
+  even-replicate : (n : ℕ) (x y : ℤ) → equalParity x y ≡ true → Even (replicate n x) (replicate n y)
+  unfolding every pairwise
+  even-replicate zero x y e = refl
+  even-replicate (suc n) x y e = ap₂ (λ (a b : Bool). a && b) e (even-replicate n x y e)
+
+  even-last : (d e : ℤ) (l r : List ℤ) → equalParity d e ≡ true → length l ≡ length r → Even l r → equalParity (lastOr d l) (lastOr e r) ≡ true
+  unfolding lastOr
+  even-last d e [] [] q n f = q
+  even-last d e [] (y ∷ r) q n f = absurd (none-equal _ n)
+  even-last d e (x ∷ l) [] q n f = absurd (none-equal _ (sym n))
+  even-last d e (x ∷ l) (y ∷ r) q n f = even-last x y l r (even-head x y l r f) (same-rest _ _ n) (even-tail x y l r f)
+
+  zero-even : equalParity (pos 0) (pos 0) ≡ true
+  unfolding equalParity
+  zero-even = refl
+
+  pub even-padded : (l r : List ℤ) → length l ≡ length r → Even l r → Even (padded l) (padded r)
+  unfolding padded
+  even-padded l r n e =
+      even-append l r (replicate (512 - length l) (lastOr (pos 0) l)) (replicate (512 - length r) (lastOr (pos 0) r)) n e
+      (subst (λ (k : ℕ). Even (replicate (512 - length l) (lastOr (pos 0) l)) (replicate (512 - k) (lastOr (pos 0) r))) n
+      (even-replicate (512 - length l) (lastOr (pos 0) l) (lastOr (pos 0) r) (even-last (pos 0) (pos 0) l r zero-even n e)))

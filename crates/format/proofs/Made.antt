@@ -1,0 +1,70 @@
+-- What the tables of cases are made of.
+use Prim.Native.Nat.{ℕ, _+_, _*_}
+use mathlib.Core.List.{List, [], _∷_, _++_}
+use lib.ListN.{length, getD, take, drop, replicate}
+use lib.IntN.{ℤ, pos}
+use lib.Ieee as Ieee
+use Rattle.format.specs.Lists.{tab, joined, from, over, lastOr, pairwise, every, anyBelow, same, isIn}
+use Rattle.format.specs.Numbers.{num, digits, le, numAt}
+use Rattle.format.specs.Header.{signature, isSignature, fieldsOf, groupsOf, entry, group}
+use Rattle.format.specs.Packed.{codes, bytes, values, packing, coding, widthOf, isBeyond, rebuilt}
+use Rattle.format.specs.Blocks.{blockMark, isBlock, baseOf, bitsOf, midBit, floatBit, codingOf, sizeOf, decoded, samplesOf, rest}
+use Rattle.format.specs.MidSide.{floatOf, patternOf, left, right, leftRight}
+use Rattle.format.specs.Units.{within, depthWord, isDepth, depthOf, framesIn}
+use Rattle.format.specs.Refusals.{number, refuse, _then_, inOrder}
+use Rattle.format.specs.Opening.{checkFields, checkOffsets, badEntry, checkTable, checkFirst, formatOf, checkOpen, headerOf, openOf}
+use Rattle.format.specs.Decoding.{isFloat, checkBlock, checkGroup, coded, channelsOf, woven, active, groupSamples, checkDecode, decodedOf, checkRoom, decodeOf, decodeInto}
+use Rattle.format.specs.Walking.{checkStep, stepSamples, stepLength, isLeft, checkStepInto, checkWalk, stepOf, nextOf, stepInto}
+use Rattle.format.specs.Encoding.{channel, plain, padded, split, differences, least, width, head0, block, blockOf, blocks, mid, side, midSide, equalParity, parity, takesMid, groupOf, groupIn, groupAt, header, tableOf, assembled, fileOf, checkSpec, checkEncoder, checkSamples, isMidSide, checkStereo, checkSize, checkEncode, checkEncodeInto, encodeOf, encodeInto}
+use Rattle.format.specs.Reencoding.{newValues, valuesFor, baseFor, newBlock, checkNewBlock, activeIn, checkNewGroup, newGroup, checkSame, checkBounds, checkRising, checkTemplate, checkReencoder, checkReencode, checkReencodeInto, refileOf, reencodeOf, reencodeInto}
+use Rattle.format.specs.Boundary.{samplesFrom, sampleBytes, isMode, modeOf, checkMode, checkBytes, hostOpen, hostDecode, hostDecodeInto, checkHostEncode, hostEncode, hostEncodeInto, checkHostReencode, hostReencode, hostReencodeInto}
+use Rattle.format.specs.declared.refusals.Refusal.{Refusal}
+use Rattle.format.specs.declared.refusals.Checked.{Checked}
+use Rattle.format.specs.declared.refusals.Checked.the-variants.{Fine, No}
+use Rattle.format.specs.declared.settings.PcmSpec.{PcmSpec}
+use Rattle.format.specs.declared.settings.StereoMode.the-variants.{Auto}
+use Rattle.format.specs.declared.answers.Outcome.the-variants.{Read, Wrote, Refused}
+use Rattle.format.specs.declared.answers.Answer.{Answer}
+
+-- every definition of document 01, so that a table unfolds them all by one word
+unfoldable pub document-01 : Unit {0}
+unfolding tab joined from over lastOr pairwise every anyBelow same isIn num digits le numAt signature isSignature fieldsOf groupsOf entry group codes bytes values packing coding widthOf isBeyond rebuilt blockMark isBlock baseOf bitsOf midBit floatBit codingOf sizeOf decoded samplesOf rest floatOf patternOf left right leftRight within depthWord isDepth depthOf framesIn refuse _then_ inOrder checkFields checkOffsets badEntry checkTable checkFirst formatOf checkOpen headerOf openOf isFloat checkBlock checkGroup coded channelsOf woven active groupSamples checkDecode decodedOf checkRoom decodeOf decodeInto checkStep stepSamples stepLength isLeft checkStepInto checkWalk stepOf nextOf stepInto channel plain padded split differences least width head0 block blockOf blocks mid side midSide equalParity parity takesMid groupOf groupIn groupAt header tableOf assembled fileOf checkSpec checkEncoder checkSamples isMidSide checkStereo checkSize checkEncode checkEncodeInto encodeOf encodeInto newValues valuesFor baseFor newBlock checkNewBlock activeIn checkNewGroup newGroup checkSame checkBounds checkRising checkTemplate checkReencoder checkReencode checkReencodeInto refileOf reencodeOf reencodeInto samplesFrom sampleBytes isMode modeOf checkMode checkBytes hostOpen hostDecode hostDecodeInto checkHostEncode hostEncode hostEncodeInto checkHostReencode hostReencode hostReencodeInto Ieee.isNan Ieee.ofBits Ieee.toBits Ieee.add Ieee.sub Ieee.sum Ieee.round Ieee.units Ieee.odd Ieee.span Ieee.climb Ieee.size Ieee.neg
+document-01 = tt
+
+-- ---- answers, and the number that checks give, 0 where nothing is refused
+
+abbrev pub read : ℕ → Answer
+read n = record { outcome = Read (record { 0 = n }) }
+
+abbrev pub wrote : ℕ → Answer
+wrote n = record { outcome = Wrote n }
+
+abbrev pub refused : Refusal → Answer
+refused r = record { outcome = Refused r }
+
+abbrev pub said : Checked → ℕ
+said Fine = 0
+said (No r) = number r
+
+-- ---- settings and files
+
+abbrev pub pcm : ℕ → ℕ → PcmSpec
+pcm channels depth = record { channels = channels; «bits_per_sample» = depth; «sample_rate» = 44100 }
+
+-- a file of these groups, with `before` before its table and `after` after its data
+abbrev pub laid : ℕ → ℕ → ℕ → List ℕ → List (List ℕ) → List ℕ → List ℕ
+laid channels depth frames before groups after =
+    let n = length groups in
+    let part : ℕ → List ℕ = λ g. getD groups g [] in
+    let table = 120 + length before in
+    signature 0x31
+    ++ (le 2 channels ++ (le 2 depth ++ (le 4 44100 ++ (le 4 frames ++ (le 4 table ++ (le 4 (table + 4 * (n + 1)) ++ (le 4 (length (joined part n))
+    ++ (replicate 88 0 ++ (before ++ (tableOf part n ++ (joined part n ++ after)))))))))))
+
+-- the file with N in the n bytes from i
+abbrev pub changed : ℕ → ℕ → ℕ → List ℕ → List ℕ
+changed i n N s = take i s ++ (le n N ++ drop (i + n) s)
+
+-- mono, 16 bits, the one sample 5
+abbrev pub five : List ℕ
+five = fileOf (pcm 1 16) Auto (pos 5 ∷ [])

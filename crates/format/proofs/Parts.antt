@@ -1,0 +1,127 @@
+-- Laws of lists in parts, and of checks in order.
+use Prim.Native.Nat.{ℕ, zero, suc, _+_, _-_, _*_, _≤_, _<_}
+use mathlib.Core.Path.{_≡_, refl, sym, ap, ap₂, _∙_, subst}
+use mathlib.Core.List.{List, [], _∷_, _++_, append-assoc, append-nil}
+use mathlib.Core.Logic.{_⊎_, ⊎-elim, inl, inr}
+use native.Mathlib.Omega.{arith}
+use native.Mathlib.Nat.{mul-suc, mul-zero}
+use native.Mathlib.Decide.{decLt}
+use lib.ListN.{length, getD, take, drop, length-append, length-drop}
+use lib.Seq.{take-at, drop-at, take-add, take-take, drop-drop, ext-getD, drop-append-add, drop-append-le, take-append-le, length-take-le}
+use Rattle.format.specs.Lists.{tab, joined, from}
+
+pub below-suc : (k n : ℕ) → k < suc n → (k ≡ n) ⊎ (k < n)
+below-suc k n l = elim (decLt k n) [ yes h ↦ inr h | no h ↦ inl (omega arith) ]
+
+module _ {A : Type 0} where
+  pub length-tab : (n : ℕ) (f : ℕ → A) → length (tab n f) ≡ n
+  unfolding tab
+  length-tab zero f = refl
+  length-tab (suc n) f = ap suc (length-tab n (λ k. f (suc k)))
+
+  pub getD-tab : (n : ℕ) (f : ℕ → A) (k : ℕ) (z : A) → k < n → getD (tab n f) k z ≡ f k
+  unfolding tab
+  getD-tab zero f k z h = absurd (omega arith)
+  getD-tab (suc n) f zero z h = refl
+  getD-tab (suc n) f (suc k) z h = getD-tab n (λ j. f (suc j)) k z (omega arith)
+
+  pub tab-cong : (n : ℕ) (f g : ℕ → A) → ((k : ℕ) → k < n → f k ≡ g k) → tab n f ≡ tab n g
+  unfolding tab
+  tab-cong zero f g h = refl
+  tab-cong (suc n) f g h = ap₂ (λ (x : A) (l : List A). x ∷ l) (h 0 (omega arith)) (tab-cong n (λ k. f (suc k)) (λ k. g (suc k)) (λ k p. h (suc k) (omega arith)))
+
+  pub is-tab : (z : A) (n : ℕ) (f : ℕ → A) (l : List A) → length l ≡ n → ((k : ℕ) → k < n → getD l k z ≡ f k) → tab n f ≡ l
+  is-tab z n f l e h = sym (ext-getD z l (tab n f) (e ∙ sym (length-tab n f)) (λ k p. h k (omega arith) ∙ sym (getD-tab n f k z (omega arith))))
+
+  pub length-joined : (P : ℕ → List A) (n : ℕ) → length (joined P (suc n)) ≡ length (joined P n) + length (P n)
+  unfolding joined
+  length-joined P n = length-append (joined P n) (P n)
+
+  -- parts of one length
+  pub length-even : (P : ℕ → List A) (w : ℕ) → ((k : ℕ) → length (P k) ≡ w) → (n : ℕ) → length (joined P n) ≡ w * n
+  unfolding joined
+  length-even P w h zero = sym (mul-zero w)
+  length-even P w h (suc n) = length-append (joined P n) (P n) ∙ omega (arith, length-even P w h n, h n, mul-suc w n)
+
+  -- more parts take no less
+  pub length-mono : (P : ℕ → List A) (k n : ℕ) → k ≤ n → length (joined P k) ≤ length (joined P n)
+  length-mono P k zero l = let e : k ≡ 0 = omega arith in rw e (omega arith)
+  length-mono P k (suc n) l =
+      ⊎-elim
+      (λ (e : k ≡ suc n). rw e (omega arith))
+      (λ (h : k < suc n). omega (arith, length-mono P k n (omega arith), length-joined P n))
+      (below-suc k (suc n) (omega arith))
+
+  -- what lies before and after part g
+  pub around : (P : ℕ → List A) (g n : ℕ) → g < n → (t : List A) × (joined P n ≡ joined P g ++ (P g ++ t))
+  unfolding joined
+  around P g zero l = absurd (omega arith)
+  around P g (suc n) l =
+      ⊎-elim
+      (λ (e : g ≡ n). ([], subst (λ (k : ℕ). joined P (suc n) ≡ joined P k ++ (P k ++ [])) (sym e) (sym (ap (λ (x : List A). joined P n ++ x) (append-nil (P n))))))
+      (λ (h : g < n). let i = around P g n h in (
+        i .0 ++ P n,
+        ap (λ (x : List A). x ++ P n) (i .1) ∙ append-assoc (joined P g) (P g ++ i .0) (P n) ∙ ap (λ (x : List A). joined P g ++ x) (append-assoc (P g) (i .0) (P n)),
+      ))
+      (below-suc g n l)
+
+  -- part g, behind what stands before it
+  pub behind : (P : ℕ → List A) (g n : ℕ) (c : List A) → g < n → (t : List A) × (drop (length (joined P g)) (joined P n ++ c) ≡ P g ++ t)
+  behind P g n c l =
+      let i = around P g n l in (
+        i .0 ++ c,
+        ap (λ (x : List A). drop (length (joined P g)) (x ++ c)) (i .1)
+            ∙ ap (drop (length (joined P g))) (append-assoc (joined P g) (P g ++ i .0) c ∙ ap (λ (x : List A). joined P g ++ x) (append-assoc (P g) (i .0) c))
+            ∙ drop-at (joined P g) (P g ++ (i .0 ++ c)) (length (joined P g)) refl,
+      )
+
+  pub part-at : (P : ℕ → List A) (g n i m : ℕ) (a c : List A) → g < n → i ≡ length a + length (joined P g) → m ≡ length (P g) → from i m (a ++ (joined P n ++ c)) ≡ P g
+  unfolding from
+  part-at P g n i m a c l e f =
+      let b = behind P g n c l in
+      ap (λ (x : ℕ). take m (drop x (a ++ (joined P n ++ c)))) e
+      ∙ ap (take m) (drop-append-add a (joined P n ++ c) (length (joined P g)) ∙ b .1)
+      ∙ take-at (P g) (b .0) m (sym f)
+
+  pub joined-cong : (P Q : ℕ → List A) (n : ℕ) → ((k : ℕ) → k < n → P k ≡ Q k) → joined P n ≡ joined Q n
+  unfolding joined
+  joined-cong P Q zero h = refl
+  joined-cong P Q (suc n) h = ap₂ (λ (x y : List A). x ++ y) (joined-cong P Q n (λ k l. h k (omega arith))) (h n (omega arith))
+
+  -- the parts of a list, joined
+  pub joined-from : (w : ℕ) (xs : List A) (n : ℕ) → joined (λ g. from (w * g) w xs) n ≡ take (w * n) xs
+  unfolding joined from
+  joined-from w xs zero = sym (ap (λ (k : ℕ). take k xs) (mul-zero w))
+  joined-from w xs (suc n) =
+      ap (λ (x : List A). x ++ take w (drop (w * n) xs)) (joined-from w xs n) ∙ sym (take-add (w * n) w xs) ∙ ap (λ (k : ℕ). take k xs) (sym (mul-suc w n))
+
+module _ {A : Type 0} where
+  -- ---- parts of parts
+  pub from-skip : (a c : List A) (i k n : ℕ) → length a ≡ i → from (i + k) n (a ++ c) ≡ from k n c
+  unfolding from
+  from-skip a c i k n e = ap (λ (x : ℕ). take n (drop (x + k) (a ++ c))) (sym e) ∙ ap (take n) (drop-append-add a c k)
+
+  pub from-within : (k n : ℕ) (b c : List A) → k + n ≤ length b → from k n (b ++ c) ≡ from k n b
+  unfolding from
+  from-within k n b c h =
+      ap (take n) (drop-append-le k b c (omega arith)) ∙ take-append-le n (drop k b) c (omega (arith, length-drop k b))
+
+  pub from-front : (n : ℕ) (b c : List A) → length b ≡ n → from 0 n (b ++ c) ≡ b
+  unfolding from
+  from-front n b c e = take-at b c n e
+
+  pub from-from : (k n i m : ℕ) (s : List A) → k + n ≤ m → i + m ≤ length s → from k n (from i m s) ≡ from (i + k) n s
+  unfolding from
+  from-from k n i m s h l =
+      let d = length-drop i s in
+      let j : m ≡ k + (m - k) = omega arith in
+      let long : length (take k (drop i s)) ≡ k = length-take-le k (drop i s) (omega arith) in
+      ap (λ (x : ℕ). take n (drop k (take x (drop i s)))) j
+      ∙ ap (λ (x : List A). take n (drop k x)) (take-add k (m - k) (drop i s))
+      ∙ ap (take n) (drop-at (take k (drop i s)) (take (m - k) (drop k (drop i s))) k long)
+      ∙ take-take n (m - k) (drop k (drop i s)) (omega arith)
+      ∙ ap (take n) (drop-drop k i s)
+
+  pub length-from : (i n : ℕ) (s : List A) → i + n ≤ length s → length (from i n s) ≡ n
+  unfolding from
+  length-from i n s h = length-take-le n (drop i s) (omega (arith, length-drop i s))

@@ -1,0 +1,90 @@
+-- What code reads and what a loop over checks says: the laws that functions cite.
+use Prim.Native.Nat.{ℕ, zero, suc, _+_, _-_, _*_, _≤_, _<_}
+use mathlib.Core.Path.{_≡_, refl, sym, ap, _∙_}
+use mathlib.Core.Bool.{Bool, true, false, cond}
+use mathlib.Core.List.{List}
+use native.Mathlib.Omega.{arith}
+use native.Mathlib.Numerals.{add-one}
+use lib.ListN.{length, getD, drop}
+use lib.Seq.{drop-cons, drop-drop}
+use lib.IntN.{ℤ, pos}
+use lib.Dec.{ltb}
+use borrow.Author.Tests.{le-leb, lt-leb}
+use Rattle.format.specs.Lists.{from}
+use Rattle.format.specs.Numbers.{num, numAt, value}
+use Rattle.format.specs.Packed.{Raw, Beyond, coding, widthOf}
+use Rattle.format.specs.Blocks.{sizeOf, rest}
+use Rattle.format.specs.Refusals.{_then_, inOrder}
+use Rattle.format.specs.declared.refusals.Refusal.{Refusal}
+use Rattle.format.specs.declared.refusals.Checked.{Checked}
+use Rattle.format.specs.declared.refusals.Checked.the-variants.{Fine, No}
+use Rattle.format.proofs.Signs.{value-pos, value-neg}
+use Rattle.format.proofs.Checks.{order-refuses}
+
+-- ---- little-endian numbers, byte by byte
+pub number-more : (i n : ℕ) (s : List ℕ) → i < length s → numAt i (suc n) s ≡ numAt (i + 1) n s * 256 + getD s i 0
+unfolding numAt from num
+number-more i n s h = rw (drop-cons s i 0 h, add-one)
+
+number-none : (j : ℕ) (s : List ℕ) → numAt j 0 s ≡ 0
+unfolding numAt from num
+number-none j s = refl
+
+pub number-2 : (i : ℕ) (s : List ℕ) → i + 2 ≤ length s → numAt i 2 s ≡ getD s i 0 + 256 * getD s (i + 1) 0
+number-2 i s h =
+    let a = number-more i 1 s (omega arith) in
+    let b = number-more (i + 1) 0 s (omega arith) in
+    let z = number-none (i + 1 + 1) s in
+    omega arith
+
+-- ---- the width that a bits word says
+module _ (depth w : ℕ) where
+  pub width-zero : w ≡ 0 → depth ≡ widthOf (coding depth (value 16 w))
+  unfolding coding widthOf
+  width-zero e = rw e
+
+  pub width-differences : 1 ≤ w → w ≤ 32 → w ≡ widthOf (coding depth (value 16 w))
+  unfolding coding widthOf
+  width-differences l u = sym (ap (λ (z : ℤ). widthOf (coding depth z)) (value-pos 16 w (omega arith)) ∙ by w l u)
+    where
+      by : (w : ℕ) → 1 ≤ w → w ≤ 32 → widthOf (coding depth (pos w)) ≡ w
+      by zero l u = absurd (omega arith)
+      by (suc n) l u = rw (le-leb (suc n) 32 u)
+
+  pub width-raw : 65504 ≤ w → w ≤ 65535 → 65536 - w ≡ widthOf (coding depth (value 16 w))
+  unfolding coding widthOf
+  width-raw l u =
+      let e : suc (65536 - suc w) ≡ 65536 - w = omega arith in
+      sym (ap (λ (z : ℤ). widthOf (coding depth z)) (value-neg 16 w (omega arith)) ∙ ap (λ (b : Bool). widthOf (cond b (Raw (suc (65536 - suc w))) Beyond)) (le-leb (suc (65536 - suc w)) 32 (omega arith)) ∙ e)
+
+  pub width-beyond : 33 ≤ w → w < 65504 → 0 ≡ widthOf (coding depth (value 16 w))
+  unfolding coding widthOf
+  width-beyond l u = sym (by (ltb w 32768) refl)
+    where
+      pos-by : (w : ℕ) → 33 ≤ w → widthOf (coding depth (pos w)) ≡ 0
+      pos-by zero l = absurd (omega arith)
+      pos-by (suc n) l = rw (lt-leb (suc n) 32 l)
+
+      by : (t : Bool) → ltb w 32768 ≡ t → widthOf (coding depth (value 16 w)) ≡ 0
+      by true e = ap (λ (z : ℤ). widthOf (coding depth z)) (value-pos 16 w (borrow.Author.Tests.ltb-true w 32768 e)) ∙ pos-by w l
+      by false e =
+          ap (λ (z : ℤ). widthOf (coding depth z)) (value-neg 16 w (borrow.Author.Tests.ltb-false w 32768 e))
+          ∙ ap (λ (b : Bool). widthOf (cond b (Raw (suc (65536 - suc w))) Beyond)) (lt-leb (suc (65536 - suc w)) 32 (omega arith))
+
+-- ---- a loop over checks: c have passed, and the next refuses or passes
+pub order-stops : (check : ℕ → Checked) (c n : ℕ) (r : Refusal) (k : Checked) → c < n → inOrder check c ≡ Fine → check c ≡ No r → No r ≡ (inOrder check n then k)
+unfolding _then_
+order-stops check c n r k l p q = sym (ap (λ (x : Checked). x then k) (order-refuses check n r (record { at = c; below = l; before = p; refuses = q })))
+
+pub order-more : (check : ℕ → Checked) (c : ℕ) → inOrder check c ≡ Fine → check c ≡ Fine → inOrder check (c + 1) ≡ Fine
+unfolding inOrder _then_
+order-more check c p q = rw add-one (rw (p, q))
+
+-- ---- the place of channel c's block: what is left is what lies from it on
+pub rest-none : (depth : ℕ) (bs : List ℕ) → rest depth bs 0 ≡ drop 0 bs
+unfolding rest
+rest-none depth bs = refl
+
+pub rest-more : (depth : ℕ) (bs : List ℕ) (c at n : ℕ) → rest depth bs c ≡ drop at bs → n ≡ sizeOf depth (drop at bs) → rest depth bs (c + 1) ≡ drop (at + n) bs
+unfolding rest
+rest-more depth bs c at n e z = rw add-one (rw (e, ← z) (drop-drop n at bs))

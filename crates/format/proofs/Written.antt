@@ -1,0 +1,93 @@
+-- How much encoding writes: length = data offset + sum of block lengths, each 16 + 64 × width.
+use Prim.Native.Nat.{ℕ, zero, suc, _+_, _-_, _*_, _/_}
+use mathlib.Core.Path.{_≡_, refl, ap, ap₂, _∙_}
+use mathlib.Core.Bool.{Bool, true, false, cond}
+use mathlib.Core.List.{List, [], _++_}
+use native.Mathlib.Omega.{arith}
+use lib.ListN.{length, getD, length-append}
+use lib.IntN.{ℤ, pos, negsuc}
+use lib.Dec.{ltb}
+use Rattle.format.specs.Lists.{joined}
+use Rattle.format.specs.Numbers.{le, digits}
+use Rattle.format.specs.Header.{signature, groupsOf}
+use Rattle.format.specs.Packed.{packing}
+use Rattle.format.specs.Blocks.{blockMark}
+use Rattle.format.specs.Encoding.{differences, width, head0, block, blockOf, blocks, groupAt, header, tableOf, assembled, fileOf}
+use Rattle.format.specs.declared.settings.PcmSpec.{PcmSpec}
+use Rattle.format.specs.declared.settings.StereoMode.{StereoMode}
+use Rattle.format.proofs.Digits.{length-le}
+use Rattle.format.proofs.Signs.{length-packing}
+use Rattle.format.proofs.Parts.{length-even}
+
+-- f 0 + f 1 + .. + f (n − 1)
+unfoldable pub sum : (ℕ → ℕ) → ℕ → ℕ
+sum f zero = 0
+sum f (suc n) = sum f n + f n
+
+pub length-sum : {A : Type 0} (P : ℕ → List A) (n : ℕ) → length (joined P n) ≡ sum (λ k. length (P k)) n
+unfolding joined sum
+length-sum P zero = refl
+length-sum P (suc n) = length-append (joined P n) (P n) ∙ ap (λ (x : ℕ). x + length (P n)) (length-sum P n)
+
+pub sum-cong : (f g : ℕ → ℕ) → ((k : ℕ) → f k ≡ g k) → (n : ℕ) → sum f n ≡ sum g n
+unfolding sum
+sum-cong f g h zero = refl
+sum-cong f g h (suc n) = ap₂ (λ (x y : ℕ). x + y) (sum-cong f g h n) (h n)
+
+-- ---- a block
+
+pub block-length : (base bits : ℤ) (flags : ℕ) (run : List ℕ) → length (block base bits flags run) ≡ 16 + length run
+unfolding block blockMark le digits
+block-length base bits flags run = omega arith
+
+-- the width that 512 samples are written at
+unfoldable pub widthIn : ℕ → List ℤ → ℕ
+widthIn depth xs = let b = width (differences xs) in cond (ltb b depth) b depth
+
+pub block-size : (depth flags : ℕ) (xs : List ℤ) → length (blockOf depth flags xs) ≡ 16 + 64 * widthIn depth xs
+unfolding blockOf widthIn
+block-size depth flags xs = by (ltb (width (differences xs)) depth)
+  where
+    run : (bits : ℤ) (b : ℕ) (vs : List ℤ) → length (block (head0 xs) bits flags (packing b vs)) ≡ 16 + 64 * b
+    run bits b vs = block-length (head0 xs) bits flags (packing b vs) ∙ ap (λ (x : ℕ). 16 + x) (length-packing b vs)
+
+    by : (t : Bool)
+        → length (cond t (block (head0 xs) (pos (width (differences xs))) flags (packing (width (differences xs)) (differences xs))) (block (head0 xs) (negsuc (depth - 1)) flags (packing depth xs)))
+        ≡ 16 + 64 * cond t (width (differences xs)) depth
+    by true = run (pos (width (differences xs))) (width (differences xs)) (differences xs)
+    by false = run (negsuc (depth - 1)) depth xs
+
+-- a group: the sum of its blocks
+pub blocks-size : (depth flags : ℕ) (chans : List (List ℤ)) → length (blocks depth flags chans) ≡ sum (λ c. 16 + 64 * widthIn depth (getD chans c [])) (length chans)
+unfolding blocks
+blocks-size depth flags chans =
+    length-sum (λ c. blockOf depth flags (getD chans c [])) (length chans)
+    ∙ sum-cong (λ c. length (blockOf depth flags (getD chans c []))) (λ c. 16 + 64 * widthIn depth (getD chans c [])) (λ c. block-size depth flags (getD chans c [])) (length chans)
+
+-- ---- the file
+
+pub header-length : (p : PcmSpec) (frames start size : ℕ) → length (header p frames start size) ≡ 120
+unfolding header signature le digits
+header-length p frames start size = refl
+
+pub table-length : (part : ℕ → List ℕ) (n : ℕ) → length (tableOf part n) ≡ 4 * (n + 1)
+unfolding tableOf
+table-length part n = length-even (λ g. le 4 (length (joined part g))) 4 (λ g. length-le 4 (length (joined part g))) (n + 1)
+
+-- the data offset
+abbrev pub offsetOf : ℕ → ℕ
+offsetOf frames = 120 + 4 * (groupsOf frames + 1)
+
+pub assembled-length : (p : PcmSpec) (frames : ℕ) (part : ℕ → List ℕ) → length (assembled p frames part) ≡ offsetOf frames + sum (λ g. length (part g)) (groupsOf frames)
+unfolding assembled
+assembled-length p frames part =
+    let n = groupsOf frames in
+    let front = header p frames (120 + 4 * (n + 1)) (length (joined part n)) in
+    let a = length-append front (tableOf part n ++ joined part n) in
+    let b = length-append (tableOf part n) (joined part n) in
+    omega (arith, header-length p frames (120 + 4 * (n + 1)) (length (joined part n)), table-length part n, length-sum part n)
+
+pub file-length : (p : PcmSpec) (mode : StereoMode) (s : List ℤ)
+    → length (fileOf p mode s) ≡ offsetOf (length s / p .channels) + sum (λ g. length (groupAt p mode s g)) (groupsOf (length s / p .channels))
+unfolding fileOf
+file-length p mode s = assembled-length p (length s / p .channels) (groupAt p mode s)

@@ -1,0 +1,21 @@
+-- Document 01 as definitions, a file for each of its sections and in its order.
+-- Lists, Numbers: the words that the others are written in.
+pub mod Lists
+pub mod Numbers
+-- "The file", "Packed values"
+pub mod Header
+pub mod Packed
+pub mod Blocks
+pub mod MidSide
+-- "The units", "Numbers of refusal"
+pub mod Units
+pub mod Refusals
+pub mod Answers
+-- "Order of checks", "Encoding", "Re-encoding"
+pub mod Opening
+pub mod Decoding
+pub mod Walking
+pub mod Encoding
+pub mod Reencoding
+-- "What must change shape": the host boundary
+pub mod Boundary

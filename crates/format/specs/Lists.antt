@@ -1,0 +1,58 @@
+-- Lists by their parts.
+use Prim.Native.Nat.{ℕ, zero, suc, _-_, _+_}
+use mathlib.Core.List.{List, [], _∷_, _++_}
+use mathlib.Core.Bool.{Bool, true, false, _&&_, _||_}
+use lib.ListN.{length, take, drop, replicate}
+use lib.Dec.{eqb}
+
+module _ {A : Type 0} where
+  -- f 0, f 1, .. f (n - 1)
+  unfoldable pub tab : ℕ → (ℕ → A) → List A
+  tab zero f = []
+  tab (suc n) f = f 0 ∷ tab n (λ k. f (suc k))
+
+  -- part 0, part 1, .. part (n - 1), one after another
+  unfoldable pub joined : (ℕ → List A) → ℕ → List A
+  joined part zero = []
+  joined part (suc n) = joined part n ++ part n
+
+  -- the n elements from i on
+  unfoldable pub from : ℕ → ℕ → List A → List A
+  from i n s = take n (drop i s)
+
+  -- what lent memory holds after a call: what was written, and then what lay after it
+  unfoldable pub over : List A → List A → List A
+  over written before = written ++ drop (length written) before
+
+  -- the last element, or d
+  unfoldable pub lastOr : A → List A → A
+  lastOr d [] = d
+  lastOr d (x ∷ xs) = lastOr x xs
+
+  -- f of each pair
+  unfoldable pub pairwise : {B : Type 0} → (A → A → B) → List A → List A → List B
+  pairwise f [] ys = []
+  pairwise f (x ∷ xs) [] = []
+  pairwise f (x ∷ xs) (y ∷ ys) = f x y ∷ pairwise f xs ys
+
+  -- every element has p
+  unfoldable pub every : (A → Bool) → List A → Bool
+  every p [] = true
+  every p (x ∷ xs) = p x && every p xs
+
+-- some k below n has p
+unfoldable pub anyBelow : (ℕ → Bool) → ℕ → Bool
+anyBelow p zero = false
+anyBelow p (suc n) = anyBelow p n || p n
+
+-- the two lists are equal
+unfoldable pub same : List ℕ → List ℕ → Bool
+same [] [] = true
+same [] (y ∷ ys) = false
+same (x ∷ xs) [] = false
+same (x ∷ xs) (y ∷ ys) = eqb x y && same xs ys
+
+-- x is among ys
+unfoldable pub isIn : ℕ → List ℕ → Bool
+isIn x [] = false
+isIn x (y ∷ ys) = eqb x y || isIn x ys

@@ -1,0 +1,33 @@
+-- Document 01, "Packed values": mid/side reading, for PCM and for float files.
+use Prim.Native.Nat.{ℕ}
+use mathlib.Core.List.{List, [], _∷_}
+use mathlib.Core.Bool.{cond}
+use lib.IntN.{ℤ}
+use lib.ListN.{getD}
+use lib.Ieee as Ieee
+use lib.Ieee.{Float, binary32}
+use Rattle.format.specs.Lists.{pairwise}
+use Rattle.format.specs.Numbers.{value, codeOf, plus, minus}
+use Rattle.format.specs.declared.settings.SampleFormat.{SampleFormat}
+use Rattle.format.specs.declared.settings.SampleFormat.the-variants.{Pcm, Float as FloatFile}
+
+-- the 32 bits are f32
+unfoldable pub floatOf : ℤ → Float
+floatOf z = Ieee.ofBits binary32 (codeOf 32 z)
+
+-- a result, rounded once, as a sample; a NaN is 0x7FC00000
+unfoldable pub patternOf : Float → ℕ
+patternOf x = cond (Ieee.isNan x) 0x7FC0_0000 (Ieee.toBits binary32 x)
+
+-- left = mid + side, right = mid − side
+unfoldable pub left : SampleFormat → ℤ → ℤ → ℤ
+left Pcm m s = plus m s
+left FloatFile m s = value 32 (patternOf (Ieee.add binary32 (floatOf m) (floatOf s)))
+
+unfoldable pub right : SampleFormat → ℤ → ℤ → ℤ
+right Pcm m s = minus m s
+right FloatFile m s = value 32 (patternOf (Ieee.sub binary32 (floatOf m) (floatOf s)))
+
+-- two channels of mid and side as left and right
+unfoldable pub leftRight : SampleFormat → List (List ℤ) → List (List ℤ)
+leftRight f chans = pairwise (left f) (getD chans 0 []) (getD chans 1 []) ∷ pairwise (right f) (getD chans 0 []) (getD chans 1 []) ∷ []

@@ -1,0 +1,21 @@
+// The types that promises speak of. Document 01 itself is in specs/, a file for each of its sections.
+
+mod answers;
+mod refusals;
+mod settings;
+mod units;
+
+pub use answers::Answer;
+pub use answers::Fields;
+pub use answers::Header;
+pub use answers::Outcome;
+pub use refusals::Checked;
+pub use refusals::Refusal;
+pub use settings::PcmSpec;
+pub use settings::SampleFormat;
+pub use settings::StereoMode;
+pub use units::Depth;
+pub use units::DepthWord;
+pub use units::Framed;
+pub use units::Frames;
+pub use units::Samples;
