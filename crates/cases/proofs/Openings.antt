@@ -9,7 +9,7 @@ use Rattle.format.specs.Encoding.{block}
 use Rattle.format.specs.declared.units.Depth.the-variants.{Sixteen, ThirtyTwo}
 use Rattle.format.specs.declared.settings.SampleFormat.the-variants.{Pcm, Float}
 use Rattle.format.specs.declared.answers.Outcome.the-variants.{Opened}
-use Rattle.format.proofs.Made.{document-01, said, laid, changed, five}
+use Rattle.format.proofs.Made.{document-01, said, saidAfter, laid, changed, five}
 
 -- a block of differences at width 1, and a mono file of two groups of such blocks: 513 frames, table at 120, data at 132
 abbrev small : List ℕ
@@ -22,58 +22,27 @@ twoGroups = laid 1 16 513 [] (small ∷ small ∷ []) []
 abbrev noGroups : List ℕ
 noGroups = changed 28 4 9 (laid 1 16 0 [] [] (replicate 9 0))
 
--- twoGroups with more and more faults, from the last check to the first
-abbrev f3 : List ℕ
-f3 = changed 132 1 0 twoGroups
-
-abbrev f19 : List ℕ
-f19 = changed 124 4 79 f3
-
-abbrev f18 : List ℕ
-f18 = changed 120 4 1 f19
-
-abbrev f16 : List ℕ
-f16 = changed 128 4 159 f18
-
-abbrev f1 : List ℕ
-f1 = take 291 f16
-
-abbrev f15 : List ℕ
-f15 = changed 16 4 512 f1
-
-abbrev f14 : List ℕ
-f14 = changed 24 4 118 f15
-
-abbrev f13 : List ℕ
-f13 = changed 20 4 119 f14
-
-abbrev f12 : List ℕ
-f12 = changed 12 4 0 f13
-
-abbrev f11 : List ℕ
-f11 = changed 10 2 12 f12
-
-abbrev f10 : List ℕ
-f10 = changed 8 2 0 f11
-
-abbrev f2 : List ℕ
-f2 = changed 7 1 1 f10
+-- faults of twoGroups, from the last check to the first
+abbrev faults : List (List ℕ → List ℕ)
+faults =
+    changed 132 1 0
+    ∷ changed 124 4 79
+    ∷ changed 120 4 1
+    ∷ changed 128 4 159
+    ∷ take 291
+    ∷ changed 16 4 512
+    ∷ changed 24 4 118
+    ∷ changed 20 4 119
+    ∷ changed 12 4 0
+    ∷ changed 10 2 12
+    ∷ changed 8 2 0
+    ∷ changed 7 1 1
+    ∷ take 119
+    ∷ []
 
 pub record Openings : Type 0 where
-  -- each check comes before all that follow it
-  pub at-3 : said (checkOpen f3) ≡ 3
-  pub at-19 : said (checkOpen f19) ≡ 19
-  pub at-18 : said (checkOpen f18) ≡ 18
-  pub at-16 : said (checkOpen f16) ≡ 16
-  pub at-1 : said (checkOpen f1) ≡ 1
-  pub at-15 : said (checkOpen f15) ≡ 15
-  pub at-14 : said (checkOpen f14) ≡ 14
-  pub at-13 : said (checkOpen f13) ≡ 13
-  pub at-12 : said (checkOpen f12) ≡ 12
-  pub at-11 : said (checkOpen f11) ≡ 11
-  pub at-10 : said (checkOpen f10) ≡ 10
-  pub at-2 : said (checkOpen f2) ≡ 2
-  pub at-header : said (checkOpen (take 119 f2)) ≡ 1
+  -- 1, 2, 10 to 15, 1, 16, 18, 19, 3: each fault more is found before all that were there
+  pub order : saidAfter checkOpen faults twoGroups ≡ 0 ∷ 3 ∷ 19 ∷ 18 ∷ 16 ∷ 1 ∷ 15 ∷ 14 ∷ 13 ∷ 12 ∷ 11 ∷ 10 ∷ 2 ∷ 1 ∷ []
   -- without groups entry 0 is the last: 16 comes before 17
   pub none-16 : said (checkOpen noGroups) ≡ 16
   pub none-17 : said (checkOpen (changed 120 4 9 noGroups)) ≡ 17
@@ -101,19 +70,7 @@ pub openings : Openings
 unfolding document-01
 openings =
     record {
-      at-3 = refl;
-      at-19 = refl;
-      at-18 = refl;
-      at-16 = refl;
-      at-1 = refl;
-      at-15 = refl;
-      at-14 = refl;
-      at-13 = refl;
-      at-12 = refl;
-      at-11 = refl;
-      at-10 = refl;
-      at-2 = refl;
-      at-header = refl;
+      order = refl;
       none-16 = refl;
       none-17 = refl;
       entry-past = refl;

@@ -11,7 +11,7 @@ use Rattle.format.specs.Reencoding.{checkReencode, refileOf, reencodeOf, reenco
 use Rattle.format.specs.declared.refusals.Checked.the-variants.{No}
 use Rattle.format.specs.declared.refusals.Refusal.the-variants.{BitsWord, OutputTooShort}
 use Rattle.format.specs.declared.settings.StereoMode.the-variants.{MidSide}
-use Rattle.format.proofs.Made.{document-01, said, wrote, refused, pcm, laid, changed, five}
+use Rattle.format.proofs.Made.{document-01, said, saidAfter, wrote, refused, pcm, laid, changed, five}
 
 -- the number that re-encoding says for mono samples, for a stereo frame
 abbrev mono : List ℤ → List ℕ → ℕ
@@ -52,18 +52,12 @@ twoGroups = laid 1 16 513 [] (block (pos 5) (negsuc 0) 0 (replicate 64 0) ∷ bl
 abbrev zeros : List ℤ
 zeros = replicate 513 (pos 0)
 
--- five with more and more faults, from the last check of the template to the first
-abbrev f42 : List ℕ
-f42 = changed 120 4 1 five
+-- faults of the template five, from the last check to the first
+abbrev faults : List (List ℕ → List ℕ)
+faults = changed 138 2 1 ∷ changed 120 4 1 ∷ take 271 ∷ changed 12 4 48000 ∷ changed 0 1 0 ∷ take 119 ∷ []
 
-abbrev f41 : List ℕ
-f41 = take 271 f42
-
-abbrev f40 : List ℕ
-f40 = changed 12 4 48000 f41
-
-abbrev f2 : List ℕ
-f2 = changed 0 1 0 f40
+abbrev faulty : List ℕ
+faulty = take 119 five
 
 -- differences at width 3: the last is 3, the padding word and the base are any
 abbrev worn : List ℕ
@@ -73,16 +67,11 @@ abbrev wornAfter : List ℕ
 wornAfter = changed 12 4 0xDEADBEEF (block (pos 4) (pos 3) 0 (packing 3 ((pos 2 ∷ replicate 510 (pos 0)) ++ (pos 3 ∷ []))))
 
 pub record Reencodings : Type 0 where
-  -- the call's own checks first: 30 to 33; then 1, 2, 40, 41, 42
-  pub spec : said (checkReencode (pcm 3 16) (pos 40000 ∷ []) (take 119 f2)) ≡ 30
-  pub frame : said (checkReencode (pcm 2 16) (pos 40000 ∷ []) (take 119 f2)) ≡ 31
-  pub value : said (checkReencode (pcm 1 16) (pos 40000 ∷ []) (take 119 f2)) ≡ 32
-  pub short : mono (pos 5 ∷ []) (take 119 f2) ≡ 1
-  pub signature : mono (pos 5 ∷ []) f2 ≡ 2
-  pub rate : mono (pos 5 ∷ []) f40 ≡ 40
-  pub bounds : mono (pos 5 ∷ []) f41 ≡ 41
-  pub offsets : mono (pos 5 ∷ []) f42 ≡ 42
-  pub fine : mono (pos 5 ∷ []) five ≡ 0
+  -- 30, 31, 32 before the template's 1, 2, 40, 41, 42, and those before its groups: each fault more is found before all that were there
+  pub spec : said (checkReencode (pcm 3 16) (pos 40000 ∷ []) faulty) ≡ 30
+  pub frame : said (checkReencode (pcm 2 16) (pos 40000 ∷ []) faulty) ≡ 31
+  pub value : said (checkReencode (pcm 1 16) (pos 40000 ∷ []) faulty) ≡ 32
+  pub order : saidAfter (checkReencode (pcm 1 16) (pos 5 ∷ [])) faults five ≡ 0 ∷ 34 ∷ 42 ∷ 41 ∷ 40 ∷ 2 ∷ 1 ∷ []
   -- 40: channels, depth, frames too
   pub channels : said (checkReencode (pcm 2 16) (pos 5 ∷ pos 5 ∷ []) five) ≡ 40
   pub depth : said (checkReencode (pcm 1 24) (pos 5 ∷ []) five) ≡ 40
@@ -150,12 +139,7 @@ reencodings =
       spec = refl;
       frame = refl;
       value = refl;
-      short = refl;
-      signature = refl;
-      rate = refl;
-      bounds = refl;
-      offsets = refl;
-      fine = refl;
+      order = refl;
       channels = refl;
       depth = refl;
       frames = refl;

@@ -68,3 +68,8 @@ changed i n N s = take i s ++ (le n N ++ drop (i + n) s)
 -- mono, 16 bits, the one sample 5
 abbrev pub five : List ℕ
 five = fileOf (pcm 1 16) Auto (pos 5 ∷ [])
+
+-- what the checks say of a file with none of these faults, with the first, with the first two, and so on
+abbrev pub saidAfter : (List ℕ → Checked) → List (List ℕ → List ℕ) → List ℕ → List ℕ
+saidAfter check [] s = said (check s) ∷ []
+saidAfter check (fault ∷ faults) s = said (check s) ∷ saidAfter check faults (fault s)

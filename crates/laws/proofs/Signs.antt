@@ -12,10 +12,11 @@ use lib.Pow.{pow-pos}
 use lib.ListN.{length, getD, length-map, List·getD-map}
 use borrow.Author.Tests.{lt-ltb, le-ltb, ltb-true, ltb-false}
 use lib.Arith.{comp-comp}
 use Rattle.format.specs.Lists.{every}
 use Rattle.format.specs.Numbers.{Below, value, codeOf, holds}
 use Rattle.format.specs.Packed.{codes, bytes, values, packing}
-use Rattle.format.proofs.Digits.{unpack-pack, pack-unpack, codes-low, length-bytes}
+use Rattle.laws.proofs.Tests.{and-left, and-right}
+use Rattle.laws.proofs.Digits.{unpack-pack, pack-unpack, codes-low, length-bytes}
 
 -- b bits hold z, and each of vs
 abbrev pub Holds : ℕ → ℤ → Type 0
@@ -81,15 +82,6 @@ packing-values b s e h = ap (bytes b) (map-forth b (codes b s) (codes-low b s)) 
 pub length-packing : (b : ℕ) (vs : List ℤ) → length (packing b vs) ≡ 64 * b
 unfolding packing
 length-packing b vs = length-bytes b (map (codeOf b) vs)
-
--- the test of every value, as a fact
-pub and-left : (a b : Bool) → (a && b) ≡ true → a ≡ true
-and-left true b e = refl
-and-left false b e = e
-
-pub and-right : (a b : Bool) → (a && b) ≡ true → b ≡ true
-and-right true b e = e
-and-right false b e = let z : false ≡ true = e in cc
 
 pub every-holds : (b : ℕ) (vs : List ℤ) → every (holds b) vs ≡ true → AllHold b vs
 unfolding every

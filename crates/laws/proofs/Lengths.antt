@@ -9,17 +9,17 @@ use lib.ListN.{length, getD, length-append, length-map}
 use lib.IntN.{ℤ, pos}
 use lib.Dec.{eqb}
 use borrow.Author.Tests.{eqb-true, eqb-false, not-false}
 use Rattle.format.specs.Lists.{tab, joined}
 use Rattle.format.specs.Header.{fieldsOf, groupsOf, group}
 use Rattle.format.specs.Blocks.{midBit, samplesOf, rest}
 use Rattle.format.specs.MidSide.{leftRight}
 use Rattle.format.specs.Opening.{formatOf, checkOpen, checkFields}
 use Rattle.format.specs.Decoding.{checkBlock, checkGroup, coded, channelsOf, woven, active, groupSamples, checkDecode, decodedOf}
 use Rattle.format.specs.declared.refusals.Checked.the-variants.{Fine}
 use Rattle.format.specs.declared.settings.SampleFormat.{SampleFormat}
 use Rattle.format.specs.declared.answers.Fields.{Fields}
-use Rattle.format.proofs.Parts.{length-tab, length-even}
-use Rattle.format.proofs.Checks.{first-fine, others-fine, passed, order-fine}
+use Rattle.laws.proofs.Parts.{length-tab, length-even}
+use Rattle.laws.proofs.Checks.{first-fine, others-fine, passed, order-fine}
 
 -- ---- a group
 length-two : (f : SampleFormat) (chans : List (List ℤ)) → length (leftRight f chans) ≡ 2

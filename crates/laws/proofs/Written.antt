@@ -1,23 +1,23 @@
 -- How much encoding writes: length = data offset + sum of block lengths, each 16 + 64 × width.
 use Prim.Native.Nat.{ℕ, zero, suc, _+_, _-_, _*_, _/_}
-use mathlib.Core.Path.{_≡_, refl, ap, ap₂, _∙_}
+use mathlib.Core.Path.{_≡_, refl, sym, ap, ap₂, _∙_}
 use mathlib.Core.Bool.{Bool, true, false, cond}
-use mathlib.Core.List.{List, [], _++_}
+use mathlib.Core.List.{List, [], _++_, append-assoc}
 use native.Mathlib.Omega.{arith}
 use lib.ListN.{length, getD, length-append}
 use lib.IntN.{ℤ, pos, negsuc}
 use lib.Dec.{ltb}
 use Rattle.format.specs.Lists.{joined}
 use Rattle.format.specs.Numbers.{le, digits}
 use Rattle.format.specs.Header.{signature, groupsOf}
 use Rattle.format.specs.Packed.{packing}
 use Rattle.format.specs.Blocks.{blockMark}
 use Rattle.format.specs.Encoding.{differences, width, head0, block, blockOf, blocks, groupAt, header, tableOf, assembled, fileOf}
 use Rattle.format.specs.declared.settings.PcmSpec.{PcmSpec}
 use Rattle.format.specs.declared.settings.StereoMode.{StereoMode}
-use Rattle.format.proofs.Digits.{length-le}
-use Rattle.format.proofs.Signs.{length-packing}
-use Rattle.format.proofs.Parts.{length-even}
+use Rattle.laws.proofs.Parts.{length-even}
+use Rattle.laws.proofs.Digits.{length-le}
+use Rattle.laws.proofs.Signs.{length-packing}
 
 -- f 0 + f 1 + .. + f (n − 1)
 unfoldable pub sum : (ℕ → ℕ) → ℕ → ℕ
@@ -70,24 +70,31 @@ pub header-length : (p : PcmSpec) (frames start size : ℕ) → length (header p
 unfolding header signature le digits
 header-length p frames start size = refl
 
-pub table-length : (part : ℕ → List ℕ) (n : ℕ) → length (tableOf part n) ≡ 4 * (n + 1)
-unfolding tableOf
-table-length part n = length-even (λ g. le 4 (length (joined part g))) 4 (λ g. length-le 4 (length (joined part g))) (n + 1)
+pub entries-length : (part : ℕ → List ℕ) (k : ℕ) → length (joined (λ g. le 4 (length (joined part g))) k) ≡ 4 * k
+entries-length part k = length-even (λ g. le 4 (length (joined part g))) 4 (λ g. length-le 4 (length (joined part g))) k
 
--- the data offset
+-- the data offset, and what lies before it
 abbrev pub offsetOf : ℕ → ℕ
 offsetOf frames = 120 + 4 * (groupsOf frames + 1)
 
-pub assembled-length : (p : PcmSpec) (frames : ℕ) (part : ℕ → List ℕ) → length (assembled p frames part) ≡ offsetOf frames + sum (λ g. length (part g)) (groupsOf frames)
+pub front-length : (p : PcmSpec) (frames start size : ℕ) (part : ℕ → List ℕ) → length (header p frames start size ++ tableOf part (groupsOf frames)) ≡ offsetOf frames
+unfolding tableOf
+front-length p frames start size part =
+    length-append (header p frames start size) (tableOf part (groupsOf frames)) ∙ omega (arith, header-length p frames start size, entries-length part (groupsOf frames + 1))
+
+pub assembled-length : (p : PcmSpec) (frames : ℕ) (part : ℕ → List ℕ) → length (assembled p frames part) ≡ offsetOf frames + length (joined part (groupsOf frames))
 unfolding assembled
 assembled-length p frames part =
     let n = groupsOf frames in
-    let front = header p frames (120 + 4 * (n + 1)) (length (joined part n)) in
-    let a = length-append front (tableOf part n ++ joined part n) in
-    let b = length-append (tableOf part n) (joined part n) in
-    omega (arith, header-length p frames (120 + 4 * (n + 1)) (length (joined part n)), table-length part n, length-sum part n)
+    let front = header p frames (offsetOf frames) (length (joined part n)) in
+    ap length (sym (append-assoc front (tableOf part n) (joined part n)))
+    ∙ length-append (front ++ tableOf part n) (joined part n)
+    ∙ ap (λ (x : ℕ). x + length (joined part n)) (front-length p frames (offsetOf frames) (length (joined part n)) part)
 
+-- THE LENGTH: the data offset, and the sum of the groups, each the sum of its blocks
 pub file-length : (p : PcmSpec) (mode : StereoMode) (s : List ℤ)
     → length (fileOf p mode s) ≡ offsetOf (length s / p .channels) + sum (λ g. length (groupAt p mode s g)) (groupsOf (length s / p .channels))
 unfolding fileOf
-file-length p mode s = assembled-length p (length s / p .channels) (groupAt p mode s)
+file-length p mode s =
+    let n = groupsOf (length s / p .channels) in
+    assembled-length p (length s / p .channels) (groupAt p mode s) ∙ ap (λ (x : ℕ). offsetOf (length s / p .channels) + x) (length-sum (groupAt p mode s) n)

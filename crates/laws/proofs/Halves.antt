@@ -11,14 +11,15 @@ use lib.ListN.{length, getD, replicate}
 use mir.Syntax.{w32}
 use mir.Val.{SFits}
 use borrow.Author.Tests.{eqb-true}
 use Rattle.format.specs.Lists.{pairwise, every, lastOr}
 use Rattle.format.specs.Numbers.{plus, wrap32}
 use Rattle.format.specs.MidSide.{left, right}
 use Rattle.format.specs.Encoding.{padded, mid, side, equalParity}
 use Rattle.format.specs.declared.settings.SampleFormat.the-variants.{Pcm}
-use Rattle.format.proofs.Up.{up, up-inj, mag-up, up-low, up-high, up-add, up-sub, up-half}
-use Rattle.format.proofs.Signs.{Holds, AllHold, and-left, and-right}
-use Rattle.format.proofs.Wrap.{wrap-fits, plus-inj}
+use Rattle.laws.proofs.Tests.{and-left, and-right}
+use Rattle.laws.proofs.Signs.{Holds, AllHold}
+use Rattle.laws.proofs.Wrap.{wrap-fits, plus-inj}
+use Rattle.laws.proofs.Up.{up, up-inj, mag-up, up-low, up-high, up-add, up-sub, up-half}
 
 -- the magnitude of a sum and of a difference
 pub mag-add : (H : ℕ) (a b : ℤ) → H < 2 ^ 38 → mag a < H → mag b < H → mag (a +ℤ b) < H + H

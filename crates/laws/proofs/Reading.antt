@@ -10,16 +10,16 @@ use lib.Seq.{drop-cons, drop-drop}
 use lib.IntN.{ℤ, pos}
 use lib.Dec.{ltb}
 use borrow.Author.Tests.{le-leb, lt-leb}
 use Rattle.format.specs.Lists.{from}
 use Rattle.format.specs.Numbers.{num, numAt, value}
 use Rattle.format.specs.Packed.{Raw, Beyond, coding, widthOf}
 use Rattle.format.specs.Blocks.{sizeOf, rest}
 use Rattle.format.specs.Refusals.{_then_, inOrder}
 use Rattle.format.specs.declared.refusals.Refusal.{Refusal}
 use Rattle.format.specs.declared.refusals.Checked.{Checked}
 use Rattle.format.specs.declared.refusals.Checked.the-variants.{Fine, No}
-use Rattle.format.proofs.Signs.{value-pos, value-neg}
-use Rattle.format.proofs.Checks.{order-refuses}
+use Rattle.laws.proofs.Checks.{order-refuses}
+use Rattle.laws.proofs.Signs.{value-pos, value-neg}
 
 -- ---- little-endian numbers, byte by byte
 pub number-more : (i n : ℕ) (s : List ℕ) → i < length s → numAt i (suc n) s ≡ numAt (i + 1) n s * 256 + getD s i 0

@@ -1,4 +1,4 @@
--- Laws of lists in parts, and of checks in order.
+-- Laws of lists in parts.
 use Prim.Native.Nat.{ℕ, zero, suc, _+_, _-_, _*_, _≤_, _<_}
 use mathlib.Core.Path.{_≡_, refl, sym, ap, ap₂, _∙_, subst}
 use mathlib.Core.List.{List, [], _∷_, _++_, append-assoc, append-nil}
@@ -6,9 +6,10 @@ use mathlib.Core.Logic.{_⊎_, ⊎-elim, inl, inr}
 use native.Mathlib.Omega.{arith}
 use native.Mathlib.Nat.{mul-suc, mul-zero}
 use native.Mathlib.Decide.{decLt}
+use native.Mathlib.Numerals.{add-one}
 use lib.ListN.{length, getD, take, drop, length-append, length-drop}
 use lib.Seq.{take-at, drop-at, take-add, take-take, drop-drop, ext-getD, drop-append-add, drop-append-le, take-append-le, length-take-le}
 use Rattle.format.specs.Lists.{tab, joined, from}
 
 pub below-suc : (k n : ℕ) → k < suc n → (k ≡ n) ⊎ (k < n)
 below-suc k n l = elim (decLt k n) [ yes h ↦ inr h | no h ↦ inl (omega arith) ]
@@ -125,3 +126,12 @@ module _ {A : Type 0} where
   pub length-from : (i n : ℕ) (s : List A) → i + n ≤ length s → length (from i n s) ≡ n
   unfolding from
   length-from i n s h = length-take-le n (drop i s) (omega (arith, length-drop i s))
+
+-- one part more
+pub one-more : {A : Type 0} (P : ℕ → List A) (k : ℕ) → length (joined P (k + 1)) ≡ length (joined P k) + length (P k)
+one-more P k = ap (λ (n : ℕ). length (joined P n)) (add-one k) ∙ length-joined P k
+
+-- two parts that meet
+pub meet : {A : Type 0} (i n m : ℕ) (s : List A) → from i n s ++ from (i + n) m s ≡ from i (n + m) s
+unfolding from
+meet {A} i n m s = ap (λ (x : List A). take n (drop i s) ++ take m x) (sym (drop-drop n i s)) ∙ sym (take-add n m (drop i s))

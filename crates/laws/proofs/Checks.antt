@@ -1,0 +1,116 @@
+-- Laws of checks in order.
+use Prim.Native.Nat.{ℕ, zero, suc, _<_}
+use mathlib.Core.Path.{_≡_, refl, sym, ap, ap₂, _∙_, subst}
+use mathlib.Core.Bool.{Bool, true, false}
+use mathlib.Core.Logic.{⊎-elim}
+use native.Mathlib.Omega.{arith}
+use Rattle.format.specs.Lists.{anyBelow}
+use Rattle.format.specs.Refusals.{refuse, _then_, inOrder}
+use Rattle.format.specs.declared.refusals.Refusal.{Refusal}
+use Rattle.format.specs.declared.refusals.Checked.{Checked}
+use Rattle.format.specs.declared.refusals.Checked.the-variants.{Fine, No}
+use Rattle.laws.proofs.Tests.{or-left, or-right}
+use Rattle.laws.proofs.Parts.{below-suc}
+
+-- ---- one check, and two
+
+pub pass : (b : Bool) (r : Refusal) → b ≡ false → refuse b r ≡ Fine
+unfolding refuse
+pass b r e = rw e
+
+pub passed : (b : Bool) (r : Refusal) → refuse b r ≡ Fine → b ≡ false
+unfolding refuse
+passed true r e = cc
+passed false r e = refl
+
+infixr 20 _and-then_
+pub _and-then_ : {a b : Checked} → a ≡ Fine → b ≡ Fine → (a then b) ≡ Fine
+unfolding _then_
+_and-then_ {a} {b} e f = rw (e, f)
+
+pub first-fine : (a b : Checked) → (a then b) ≡ Fine → a ≡ Fine
+unfolding _then_
+first-fine Fine b e = refl
+first-fine (No r) b e = e
+
+pub others-fine : (a b : Checked) → (a then b) ≡ Fine → b ≡ Fine
+unfolding _then_
+others-fine Fine b e = e
+others-fine (No r) b e = cc
+
+-- ---- as many as there are: P n says that Q holds of each k below n
+
+module _ (P Q : ℕ → Type 0) where
+  all-below : P 0 → ((n : ℕ) → P n → Q n → P (suc n)) → (n : ℕ) → ((k : ℕ) → k < n → Q k) → P n
+  all-below none more zero h = none
+  all-below none more (suc n) h = more n (all-below none more n (λ k l. h k (omega arith))) (h n (omega arith))
+
+  each-below : ((n : ℕ) → P (suc n) → P n × Q n) → (k n : ℕ) → k < n → P n → Q k
+  each-below less k zero l p = absurd (omega arith)
+  each-below less k (suc n) l p =
+      ⊎-elim (λ (e : k ≡ n). subst Q (sym e) (less n p .1)) (λ (h : k < n). each-below less k n h (less n p .0)) (below-suc k n l)
+
+-- checks
+module _ (check : ℕ → Checked) where
+  abbrev Fine-at : ℕ → Type 0
+  Fine-at k = check k ≡ Fine
+
+  abbrev Fine-below : ℕ → Type 0
+  Fine-below n = inOrder check n ≡ Fine
+
+  pub in-order : (n : ℕ) → ((k : ℕ) → k < n → check k ≡ Fine) → inOrder check n ≡ Fine
+  unfolding inOrder
+  in-order = all-below Fine-below Fine-at refl (λ n p q. p and-then q)
+
+  pub order-fine : (k n : ℕ) → k < n → inOrder check n ≡ Fine → check k ≡ Fine
+  unfolding inOrder
+  order-fine = each-below Fine-below Fine-at (λ n e. (first-fine (inOrder check n) (check n) e, others-fine (inOrder check n) (check n) e))
+
+-- tests
+module _ (p : ℕ → Bool) where
+  abbrev Not-at : ℕ → Type 0
+  Not-at k = p k ≡ false
+
+  abbrev None-below : ℕ → Type 0
+  None-below n = anyBelow p n ≡ false
+
+  pub none-below : (n : ℕ) → ((k : ℕ) → k < n → p k ≡ false) → anyBelow p n ≡ false
+  unfolding anyBelow
+  none-below = all-below None-below Not-at refl (λ n e f. rw (e, f))
+
+  pub found-below : (k n : ℕ) → k < n → anyBelow p n ≡ false → p k ≡ false
+  unfolding anyBelow
+  found-below = each-below None-below Not-at (λ n e. (or-left (anyBelow p n) (p n) e, or-right (anyBelow p n) (p n) e))
+
+-- ---- the first refusal
+
+-- checks in order refuse as the first that refuses, and only so
+pub record FirstRefuses (check : ℕ → Checked) (n : ℕ) (r : Refusal) : Type 0 where
+  pub at : ℕ
+  pub below : at < n
+  pub before : inOrder check at ≡ Fine
+  pub refuses : check at ≡ No r
+
+pub order-refuses : (check : ℕ → Checked) (n : ℕ) (r : Refusal) → FirstRefuses check n r → inOrder check n ≡ No r
+unfolding inOrder _then_
+order-refuses check zero r f = let z = f .below in absurd (omega arith)
+order-refuses check (suc n) r f =
+    ⊎-elim
+    (λ (e : f .at ≡ n). ap₂ (λ (a b : Checked). a then b) (ap (inOrder check) (sym e) ∙ f .before) (ap check (sym e) ∙ f .refuses))
+    (λ (l : f .at < n). ap (λ (a : Checked). a then check n) (order-refuses check n r (record { at = f .at; below = l; before = f .before; refuses = f .refuses })))
+    (below-suc (f .at) n (f .below))
+
+pub refusal-first : (check : ℕ → Checked) (n : ℕ) (r : Refusal) → inOrder check n ≡ No r → FirstRefuses check n r
+unfolding inOrder _then_
+refusal-first check zero r e = let z : _≡_ {A = ℕ} 0 1 = cc in absurd (omega arith)
+refusal-first check (suc n) r e = by (inOrder check n) refl (refusal-first check n)
+  where
+    by : (c : Checked) → inOrder check n ≡ c → ((r : Refusal) → inOrder check n ≡ No r → FirstRefuses check n r) → FirstRefuses check (suc n) r
+    by Fine q i = record { at = n; below = omega arith; before = q; refuses = sym (ap (λ (a : Checked). a then check n) q) ∙ e }
+    by (No x) q i =
+        let y : No x ≡ No r = sym (ap (λ (a : Checked). a then check n) q) ∙ e in
+        let f = i r (q ∙ y) in
+        record { at = f .at; below = lt-suc (f .at) n (f .below); before = f .before; refuses = f .refuses }
+      where
+        lt-suc : (a n : ℕ) → a < n → a < suc n
+        lt-suc a n l = omega arith

@@ -1,0 +1,46 @@
+-- What holds of each element of lists holds of their parts, and of them joined.
+use Prim.Native.Nat.{ℕ, zero, suc, _+_, _<_}
+use mathlib.Core.List.{List, [], _∷_, _++_}
+use native.Mathlib.Omega.{arith}
+use lib.ListN.{getD, take, drop, replicate}
+use lib.Seq.{getD-drop}
+use Rattle.format.specs.Lists.{tab, joined, from}
+
+-- P of each element, and of d, which stands past the end
+abbrev pub Each : {A : Type 0} → (A → Type 0) → A → List A → Type 0
+Each P d xs = (i : ℕ) → P (getD xs i d)
+
+module _ {A : Type 0} (P : A → Type 0) (d : A) (pd : P d) where
+  pub each-append : (xs ys : List A) → Each P d xs → Each P d ys → Each P d (xs ++ ys)
+  each-append [] ys p q i = q i
+  each-append (x ∷ xs) ys p q zero = p 0
+  each-append (x ∷ xs) ys p q (suc i) = each-append xs ys (λ j. p (suc j)) q i
+
+  pub each-take : (n : ℕ) (xs : List A) → Each P d xs → Each P d (take n xs)
+  each-take zero xs p i = pd
+  each-take (suc n) [] p i = pd
+  each-take (suc n) (x ∷ xs) p zero = p 0
+  each-take (suc n) (x ∷ xs) p (suc i) = each-take n xs (λ j. p (suc j)) i
+
+  pub each-drop : (k : ℕ) (xs : List A) → Each P d xs → Each P d (drop k xs)
+  each-drop k xs p i = rw (getD-drop k xs i d) (p (k + i))
+
+  pub each-from : (k n : ℕ) (xs : List A) → Each P d xs → Each P d (from k n xs)
+  unfolding from
+  each-from k n xs p = each-take n (drop k xs) (each-drop k xs p)
+
+  pub each-tab : (n : ℕ) (f : ℕ → A) → ((k : ℕ) → P (f k)) → Each P d (tab n f)
+  unfolding tab
+  each-tab zero f h i = pd
+  each-tab (suc n) f h zero = h 0
+  each-tab (suc n) f h (suc i) = each-tab n (λ k. f (suc k)) (λ k. h (suc k)) i
+
+  pub each-replicate : (n : ℕ) (x : A) → P x → Each P d (replicate n x)
+  each-replicate zero x h i = pd
+  each-replicate (suc n) x h zero = h
+  each-replicate (suc n) x h (suc i) = each-replicate n x h i
+
+  pub each-joined : (Q : ℕ → List A) (n : ℕ) → ((k : ℕ) → k < n → Each P d (Q k)) → Each P d (joined Q n)
+  unfolding joined
+  each-joined Q zero h = λ i. pd
+  each-joined Q (suc n) h = each-append (joined Q n) (Q n) (each-joined Q n (λ k l. h k (omega arith))) (h n (omega arith))

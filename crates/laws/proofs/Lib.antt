@@ -1,0 +1,18 @@
+-- Laws of the definitions, each once.
+-- tests, lists, and checks in order
+
+pub mod Tests
+pub mod Parts
+pub mod Each
+pub mod Checks
+-- numbers: digits and packing over the width, codes and signs, wrapped sums and differences, halves of them
+pub mod Digits
+pub mod Signs
+pub mod Wrap
+pub mod Up
+pub mod Halves
+pub mod SampleBytes
+-- how much is read and written; what a function that reads cites
+pub mod Lengths
+pub mod Written
+pub mod Reading

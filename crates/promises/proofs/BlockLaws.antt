@@ -1,0 +1,183 @@
+-- A block that was written is read back, over the depth, the width and the flags.
+use Prim.Native.Nat.{ℕ, zero, suc, _+_, _-_, _*_, _≤_, _<_}
+use mathlib.Core.Path.{_≡_, refl, sym, ap, ap₂, _∙_}
+use mathlib.Core.Bool.{Bool, true, false, cond}
+use mathlib.Core.List.{List, [], _∷_, _++_}
+use native.Mathlib.Omega.{arith}
+use native.Mathlib.Nat.{lt-of-lt-of-le}
+use lib.ListN.{length, getD, drop}
+use lib.Seq.{take-at}
+use lib.IntN.{ℤ, pos, negsuc}
+use lib.Dec.{ltb}
+use lib.Pow.{pow-mono}
+use borrow.Author.Tests.{ltb-true, le-leb}
+use Rattle.format.specs.Lists.{from, same, every}
+use Rattle.format.specs.Numbers.{num, digits, le, numAt, value, codeOf, holds}
+use Rattle.format.specs.Packed.{Coding, Differences, Raw, coding, widthOf, values, packing, rebuilt, isBeyond}
+use Rattle.format.specs.Blocks.{blockMark, isBlock, baseOf, bitsOf, codingOf, sizeOf, decoded, samplesOf}
+use Rattle.format.specs.Encoding.{differences, least, width, head0, block, blockOf}
+use Rattle.laws.proofs.Digits.{num-le}
+use Rattle.laws.proofs.Signs.{Holds, AllHold, code-lt, value-code, values-packing, length-packing, every-holds}
+use Rattle.laws.proofs.Wrap.{Fit, rebuilt-back}
+
+-- ---- the width
+
+least-holds : (n b : ℕ) (ds : List ℤ) → least n b ds < b + n → every (holds (least n b ds)) ds ≡ true
+unfolding least
+least-holds zero b ds h = absurd (omega arith)
+least-holds (suc n) b ds h = by (every (holds b) ds) refl (least-holds n (b + 1) ds) h
+  where
+    by : (t : Bool) → every (holds b) ds ≡ t → (least n (b + 1) ds < b + 1 + n → every (holds (least n (b + 1) ds)) ds ≡ true)
+        → cond t b (least n (b + 1) ds) < b + suc n → every (holds (cond t b (least n (b + 1) ds))) ds ≡ true
+    by true e i l = e
+    by false e i l = i (omega arith)
+
+least-low : (n b : ℕ) (ds : List ℤ) → b ≤ least n b ds
+unfolding least
+least-low zero b ds = omega arith
+least-low (suc n) b ds = by (every (holds b) ds) (least-low n (b + 1) ds)
+  where
+    by : (t : Bool) → b + 1 ≤ least n (b + 1) ds → b ≤ cond t b (least n (b + 1) ds)
+    by true i = omega arith
+    by false i = omega arith
+
+pub width-low : (ds : List ℤ) → 2 ≤ width ds
+unfolding width
+width-low ds = least-low 30 2 ds
+
+pub width-holds : (ds : List ℤ) → width ds < 32 → AllHold (width ds) ds
+unfolding width
+width-holds ds h = every-holds (least 30 2 ds) ds (least-holds 30 2 ds h)
+
+pub length-differences : (xs : List ℤ) → length (differences xs) ≡ length xs
+unfolding differences
+length-differences [] = refl
+length-differences (x ∷ []) = refl
+length-differences (x ∷ y ∷ xs) = ap suc (length-differences (y ∷ xs))
+
+-- what a depth holds is of 32 bits
+pub fit : (depth : ℕ) → depth ≤ 32 → (xs : List ℤ) → AllHold depth xs → Fit xs
+fit depth u xs h i = record { sfits = lt-of-lt-of-le (h i) (pow-mono {j = 31} (omega arith)) }
+
+-- ---- what a block's bytes say
+module _ (base bits : ℤ) (flags : ℕ) (run : List ℕ) where
+  pub block-length : length (block base bits flags run) ≡ 16 + length run
+  unfolding block blockMark le digits
+  block-length = omega arith
+
+  -- with anything after them
+  module _ (t : List ℕ) where
+    base-read : numAt 4 4 (block base bits flags run ++ t) ≡ num 256 (le 4 (codeOf 32 base))
+    unfolding numAt from block blockMark le digits
+    base-read = refl
+
+    bits-read : numAt 8 2 (block base bits flags run ++ t) ≡ num 256 (le 2 (codeOf 16 bits))
+    unfolding numAt from block blockMark le digits
+    bits-read = refl
+
+    flags-read : numAt 10 2 (block base bits flags run ++ t) ≡ num 256 (le 2 flags)
+    unfolding numAt from block blockMark le digits
+    flags-read = refl
+
+    pub run-read : drop 16 (block base bits flags run ++ t) ≡ run ++ t
+    unfolding block blockMark le digits
+    run-read = refl
+
+    pub mark-read : isBlock (block base bits flags run ++ t) ≡ true
+    unfolding isBlock same block blockMark
+    mark-read = refl
+
+    pub flags-are : flags < 65536 → numAt 10 2 (block base bits flags run ++ t) ≡ flags
+    flags-are h = flags-read ∙ num-le 2 flags h
+
+    pub base-is : Holds 32 base → baseOf (block base bits flags run ++ t) ≡ base
+    unfolding baseOf
+    base-is h = ap (value 32) (base-read ∙ num-le 4 (codeOf 32 base) (code-lt 32 (omega arith) base h)) ∙ value-code 32 (omega arith) base h
+
+    pub bits-are : Holds 16 bits → bitsOf (block base bits flags run ++ t) ≡ bits
+    unfolding bitsOf
+    bits-are h = ap (value 16) (bits-read ∙ num-le 2 (codeOf 16 bits) (code-lt 16 (omega arith) bits h)) ∙ value-code 16 (omega arith) bits h
+
+-- ---- what reading says of bs, whatever lies after it: the samples xs, and nothing refused
+pub record Reads (depth flags : ℕ) (xs : List ℤ) (bs : List ℕ) : Type 0 where
+  pub long : 80 ≤ length bs
+  pub size : (t : List ℕ) → sizeOf depth (bs ++ t) ≡ length bs
+  pub mark : (t : List ℕ) → isBlock (bs ++ t) ≡ true
+  pub flags-word : (t : List ℕ) → numAt 10 2 (bs ++ t) ≡ flags
+  pub within : (t : List ℕ) → isBeyond (codingOf depth (bs ++ t)) ≡ false
+  pub samples : (t : List ℕ) → samplesOf depth (bs ++ t) ≡ xs
+
+coding-differences : (depth b : ℕ) → 1 ≤ b → b ≤ 32 → coding depth (pos b) ≡ Differences b
+unfolding coding
+coding-differences depth zero l u = absurd (omega arith)
+coding-differences depth (suc n) l u = rw (le-leb (suc n) 32 u)
+
+coding-raw : (depth b : ℕ) → 1 ≤ b → b ≤ 32 → coding depth (negsuc (b - 1)) ≡ Raw b
+unfolding coding
+coding-raw depth b l u = let e : suc (b - 1) ≡ b = omega arith in rw (e, le-leb b 32 u)
+
+module _ (depth flags : ℕ) (low : 1 ≤ depth) (high : depth ≤ 32) (small : flags < 65536) (xs : List ℤ) (l : length xs ≡ 512) (h : AllHold depth xs) where
+  head-holds : Holds 32 (head0 xs)
+  unfolding head0
+  head-holds = lt-of-lt-of-le (by xs (h 0)) (pow-mono {j = 31} (omega arith))
+    where
+      by : (ys : List ℤ) → Holds depth (getD ys 0 (pos 0)) → Holds depth (head0 ys)
+      by [] p = p
+      by (y ∷ ys) p = p
+
+  -- either way of coding: b is its width, vs what is packed
+  module _ (b : ℕ) (bits : ℤ) (vs : List ℤ) (b1 : 1 ≤ b) (hb : Holds 16 bits) (c : Coding) (ec : coding depth bits ≡ c) (ew : widthOf c ≡ b) (en : isBeyond c ≡ false)
+      (back : (t : List ℕ) → decoded c (head0 xs) (packing b vs ++ t) ≡ xs) where
+    abbrev bs : List ℕ
+    bs = block (head0 xs) bits flags (packing b vs)
+
+    coded-as : (t : List ℕ) → codingOf depth (bs ++ t) ≡ c
+    unfolding codingOf
+    coded-as t = ap (coding depth) (bits-are (head0 xs) bits flags (packing b vs) t hb) ∙ ec
+
+    bs-length : length bs ≡ 16 + 64 * b
+    bs-length = block-length (head0 xs) bits flags (packing b vs) ∙ ap (λ (n : ℕ). 16 + n) (length-packing b vs)
+
+    reads-as : Reads depth flags xs bs
+    unfolding sizeOf samplesOf
+    reads-as =
+        record {
+          long = omega (arith, bs-length);
+          size = λ t. ap (λ (k : Coding). 16 + 64 * widthOf k) (coded-as t) ∙ ap (λ (n : ℕ). 16 + 64 * n) ew ∙ sym bs-length;
+          mark = mark-read (head0 xs) bits flags (packing b vs);
+          flags-word = λ t. flags-are (head0 xs) bits flags (packing b vs) t small;
+          within = λ t. ap isBeyond (coded-as t) ∙ en;
+          samples = λ t. ap (λ (k : Coding). decoded k (baseOf (bs ++ t)) (drop 16 (bs ++ t))) (coded-as t)
+              ∙ ap₂ (decoded c) (base-is (head0 xs) bits flags (packing b vs) t head-holds) (run-read (head0 xs) bits flags (packing b vs) t)
+              ∙ back t;
+        }
+
+  as-differences : (b : ℕ) → 2 ≤ b → b < 32 → AllHold b (differences xs) → Reads depth flags xs (block (head0 xs) (pos b) flags (packing b (differences xs)))
+  unfolding decoded widthOf isBeyond
+  as-differences b b2 b32 hd =
+      reads-as b (pos b) (differences xs) (omega arith) (omega arith) (Differences b) (coding-differences depth b (omega arith) (omega arith)) refl refl
+      (λ t. ap (λ (r : List ℕ). rebuilt (head0 xs) (values b r)) (take-at (packing b (differences xs)) t (64 * b) (length-packing b (differences xs)))
+      ∙ ap (rebuilt (head0 xs)) (values-packing b (omega arith) (differences xs) (length-differences xs ∙ l) hd)
+      ∙ rebuilt-back xs (fit depth high xs h))
+
+  as-raw : Reads depth flags xs (block (head0 xs) (negsuc (depth - 1)) flags (packing depth xs))
+  unfolding decoded widthOf isBeyond
+  as-raw =
+      reads-as depth (negsuc (depth - 1)) xs low (omega arith) (Raw depth) (coding-raw depth depth low high) refl refl
+      (λ t. ap (values depth) (take-at (packing depth xs) t (64 * depth) (length-packing depth xs)) ∙ values-packing depth low xs l h)
+
+  -- the block of 512 samples that the depth holds reads as those samples
+  pub block-reads : Reads depth flags xs (blockOf depth flags xs)
+  unfolding blockOf
+  block-reads = by (ltb (width ds) depth) refl
+    where
+      ds : List ℤ
+      ds = differences xs
+
+      by : (t : Bool) → ltb (width ds) depth ≡ t
+          → Reads depth flags xs (cond t (block (head0 xs) (pos (width ds)) flags (packing (width ds) ds)) (block (head0 xs) (negsuc (depth - 1)) flags (packing depth xs)))
+      by true e =
+          let w : width ds < depth = ltb-true (width ds) depth e in
+          let w32 : width ds < 32 = omega arith in
+          as-differences (width ds) (width-low ds) w32 (width-holds ds w32)
+      by false e = as-raw

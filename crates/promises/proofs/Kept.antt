@@ -1,0 +1,173 @@
+-- A template's block with its own samples is the template's block.
+use Prim.Native.Nat.{ℕ, zero, suc, _+_, _-_, _*_, _^_, _≤_, _<_, min}
+use mathlib.Core.Path.{_≡_, refl, sym, ap, ap₂, _∙_, subst}
+use mathlib.Core.Bool.{true, false, not}
+use mathlib.Core.List.{List, [], _∷_, _++_, map}
+use native.Mathlib.Omega.{arith}
+use lib.ListN.{length, getD, take, drop, take-append-drop, length-append, length-drop, List·getD-map}
+use lib.Seq.{take-at, length-take-le}
+use lib.IntN.{ℤ, pos}
+use lib.Pow.{pow-pos}
+use mir.Syntax.{w32}
+use mir.Val.{SFits}
+use borrow.Author.Tests.{le-ltb, ne-eqb}
+use Rattle.format.specs.Lists.{from, every}
+use Rattle.format.specs.Numbers.{num, Below, le, numAt, value, codeOf, holds}
+use Rattle.format.specs.Packed.{Coding, Differences, Raw, Beyond, widthOf, codes, values, packing, rebuilt, isBeyond}
+use Rattle.format.specs.Blocks.{baseOf, bitsOf, codingOf, sizeOf, decoded, samplesOf}
+use Rattle.format.specs.Encoding.{differences, head0}
+use Rattle.format.specs.Reencoding.{newValues, valuesFor, baseFor, newBlock, checkNewBlock}
+use Rattle.format.specs.declared.refusals.Checked.the-variants.{Fine}
+use Rattle.laws.proofs.Tests.{never}
+use Rattle.laws.proofs.Parts.{length-from, meet}
+use Rattle.laws.proofs.Checks.{pass, _and-then_}
+use Rattle.laws.proofs.Digits.{num-lt, le-num, codes-low}
+use Rattle.laws.proofs.Signs.{AllHold, code-value, value-pos, value-holds, packing-values, holds-every}
+use Rattle.laws.proofs.Wrap.{Fit, differences-rebuilt}
+use Rattle.promises.proofs.BlockLaws.{fit}
+use Rattle.promises.proofs.NewBlocks.{Template, length-values, value-fits, new-raw, new-differences, width-some, width-most, length-rebuilt, rebuilt-fit, word-same, new-reads}
+use Rattle.promises.proofs.Bytes.{below-from}
+
+values-hold : (b : ℕ) (s : List ℕ) → 1 ≤ b → AllHold b (values b s)
+unfolding values
+values-hold b s l i =
+    let vs = map (value b) (codes b s) in
+    let e : getD vs i (pos 0) ≡ value b (getD (codes b s) i 0) = ap (getD vs i) (sym (value-pos b 0 (pow-pos (b - 1)))) ∙ List·getD-map (value b) (codes b s) i 0 in
+    rw e (value-holds b (getD (codes b s) i 0) l (codes-low b s i))
+
+values-fit : (b : ℕ) (s : List ℕ) → 1 ≤ b → b ≤ 32 → Fit (values b s)
+values-fit b s l u = fit b u (values b s) (values-hold b s l)
+
+head-take : (n : ℕ) (base : ℤ) (vs : List ℤ) → 1 ≤ n → 1 ≤ length vs → head0 (take n (rebuilt base vs)) ≡ base
+unfolding head0 rebuilt
+head-take zero base vs p q = absurd (omega arith)
+head-take (suc n) base [] p q = absurd (omega arith)
+head-take (suc n) base (v ∷ vs) p q = refl
+
+-- the values and the base stay
+module _ (base : ℤ) (fb : SFits w32 base) (run : List ℕ) (xs : List ℤ) (some : 1 ≤ length xs) where
+  values-kept : (k : Coding) → isBeyond k ≡ false → 1 ≤ widthOf k → widthOf k ≤ 32 → xs ≡ take (length xs) (decoded k base run)
+      → newValues k (decoded k base run) run xs ≡ values (widthOf k) (take (64 * widthOf k) run)
+  unfolding decoded isBeyond widthOf
+  values-kept (Raw b) e l u q =
+      let vs = values b (take (64 * b) run) in
+      new-raw b vs run xs ∙ ap (λ (ys : List ℤ). ys ++ drop (length xs) vs) q ∙ take-append-drop (length xs) vs
+  values-kept (Differences b) e l u q =
+      let vs = values b (take (64 * b) run) in
+      let m = min (length xs) 511 in
+      let v = length-values b (take (64 * b) run) in
+      new-differences b (rebuilt base vs) run xs
+      ∙ ap (λ (ys : List ℤ). take m (differences ys) ++ drop m vs) (ap (λ (ys : List ℤ). ys ++ drop (length xs) (rebuilt base vs)) q ∙ take-append-drop (length xs) (rebuilt base vs))
+      ∙ ap (λ (ys : List ℤ). ys ++ drop m vs) (differences-rebuilt m base vs fb (values-fit b (take (64 * b) run) l u) (omega arith))
+      ∙ take-append-drop m vs
+  values-kept Beyond e l u q = never e
+
+  base-kept : (k : Coding) (r : List ℕ) → xs ≡ take (length xs) (decoded k base run) → le 4 (codeOf 32 base) ≡ from 4 4 r → baseFor k r xs ≡ from 4 4 r
+  unfolding decoded baseFor
+  base-kept (Raw b) r q z = refl
+  base-kept (Differences b) r q z =
+      let v = length-values b (take (64 * b) run) in
+      ap (λ (x : ℤ). le 4 (codeOf 32 x)) (ap head0 q ∙ head-take (length xs) base (values b (take (64 * b) run)) some (omega arith)) ∙ z
+  base-kept Beyond r q z = refl
+
+-- a template's block, with samples xs that it holds at its front
+module _ (depth : ℕ) (low : 1 ≤ depth) (high : depth ≤ 32) (r : List ℕ) (byte : Below 256 r) (xs : List ℤ) (some : 1 ≤ length xs) (ok : Template depth r xs)
+    (own : xs ≡ take (length xs) (samplesOf depth r)) where
+  abbrev c : Coding
+  c = codingOf depth r
+
+  abbrev b : ℕ
+  b = widthOf (codingOf depth r)
+
+  wide : 1 ≤ b
+  unfolding codingOf
+  wide = width-some depth (bitsOf r) low (ok .within)
+
+  narrow : b ≤ 32
+  unfolding codingOf
+  narrow = width-most depth (bitsOf r) high (ok .within)
+
+  base-bytes : le 4 (codeOf 32 (baseOf r)) ≡ from 4 4 r
+  unfolding baseOf numAt
+  base-bytes =
+      let f : length (from 4 4 r) ≡ 4 = length-from 4 4 r (omega (arith, ok .head)) in
+      let small : num 256 (from 4 4 r) < 2 ^ 32 = subst (λ (n : ℕ). num 256 (from 4 4 r) < 256 ^ n) f (num-lt 256 (from 4 4 r) (below-from r byte 4 4)) in
+      ap (le 4) (code-value 32 (num 256 (from 4 4 r)) small) ∙ le-num 4 (from 4 4 r) f (below-from r byte 4 4)
+
+  own-is : xs ≡ take (length xs) (decoded c (baseOf r) (drop 16 r))
+  unfolding samplesOf
+  own-is = own
+
+  run-kept : packing b (valuesFor depth r xs) ≡ from 16 (64 * b) r
+  unfolding valuesFor samplesOf from baseOf sizeOf
+  run-kept =
+      let z = ok .sized in
+      let l : length (take (64 * b) (drop 16 r)) ≡ 64 * b = length-take-le (64 * b) (drop 16 r) (omega (arith, length-drop 16 r)) in
+      ap (packing b) (values-kept (baseOf r) (value-fits (numAt 4 4 r)) (drop 16 r) xs some c (ok .within) wide narrow own-is)
+      ∙ packing-values b (take (64 * b) (drop 16 r)) l (below-from r byte 16 (64 * b))
+
+  -- the new block is the template's
+  pub block-kept : newBlock depth r xs ≡ take (sizeOf depth r) r
+  unfolding newBlock sizeOf from baseOf
+  block-kept =
+      ap₂ (λ (x y : List ℕ). take 4 r ++ (x ++ (from 8 8 r ++ y))) (base-kept (baseOf r) (value-fits (numAt 4 4 r)) (drop 16 r) xs some c r own-is base-bytes) run-kept
+      ∙ ap (λ (x : List ℕ). take 4 r ++ (from 4 4 r ++ x)) (meet 8 8 (64 * b) r)
+      ∙ ap (λ (x : List ℕ). take 4 r ++ x) (meet 4 4 (8 + 64 * b) r)
+      ∙ meet 0 4 (4 + (8 + 64 * b)) r
+      ∙ ap (λ (n : ℕ). take n r) sum
+    where
+      sum : 4 + (4 + (8 + 64 * b)) ≡ 16 + 64 * b
+      sum = omega arith
+
+-- ---- a template's samples: 512, of 32 bits
+module _ (base : ℤ) (fb : SFits w32 base) (run : List ℕ) where
+  decoded-512 : (k : Coding) → isBeyond k ≡ false → length (decoded k base run) ≡ 512
+  unfolding decoded isBeyond
+  decoded-512 (Raw b) e = length-values b (take (64 * b) run)
+  decoded-512 (Differences b) e = length-rebuilt base (values b (take (64 * b) run)) ∙ length-values b (take (64 * b) run)
+  decoded-512 Beyond e = never e
+
+  decoded-fit : (k : Coding) → isBeyond k ≡ false → 1 ≤ widthOf k → widthOf k ≤ 32 → Fit (decoded k base run)
+  unfolding decoded isBeyond widthOf
+  decoded-fit (Raw b) e l u = values-fit b (take (64 * b) run) l u
+  decoded-fit (Differences b) e l u = rebuilt-fit base (values b (take (64 * b) run)) fb
+  decoded-fit Beyond e l u = never e
+
+pub samples-512 : (depth : ℕ) (r : List ℕ) → isBeyond (codingOf depth r) ≡ false → length (samplesOf depth r) ≡ 512
+unfolding samplesOf baseOf
+samples-512 depth r e = decoded-512 (baseOf r) (value-fits (numAt 4 4 r)) (drop 16 r) (codingOf depth r) e
+
+pub samples-fit : (depth : ℕ) (r : List ℕ) → 1 ≤ depth → depth ≤ 32 → isBeyond (codingOf depth r) ≡ false → Fit (samplesOf depth r)
+unfolding samplesOf baseOf codingOf
+samples-fit depth r l u e =
+    decoded-fit (baseOf r) (value-fits (numAt 4 4 r)) (drop 16 r) (codingOf depth r) e (width-some depth (bitsOf r) l e) (width-most depth (bitsOf r) u e)
+
+-- ---- a block that holds the samples at its front is wide enough for them
+pub own-fits : (depth : ℕ) (r : List ℕ) (xs : List ℤ) → 1 ≤ depth → depth ≤ 32 → isBeyond (codingOf depth r) ≡ false → 1 ≤ length xs
+    → xs ≡ take (length xs) (samplesOf depth r) → every (holds (widthOf (codingOf depth r))) (valuesFor depth r xs) ≡ true
+unfolding valuesFor samplesOf baseOf codingOf
+own-fits depth r xs low high e some own =
+    let c = codingOf depth r in
+    let l = width-some depth (bitsOf r) low e in
+    ap (every (holds (widthOf c))) (values-kept (baseOf r) (value-fits (numAt 4 4 r)) (drop 16 r) xs some c e l (width-most depth (bitsOf r) high e) own)
+    ∙ holds-every (widthOf c) (values (widthOf c) (take (64 * widthOf c) (drop 16 r))) (values-hold (widthOf c) (take (64 * widthOf c) (drop 16 r)) l)
+
+-- the new block is accepted as a template's, with the same samples
+pub again-block : (depth : ℕ) → 1 ≤ depth → depth ≤ 32 → (r : List ℕ) (xs : List ℤ) → 1 ≤ length xs → length xs ≤ 512 → Fit xs → Template depth r xs → (t : List ℕ)
+    → checkNewBlock depth (newBlock depth r xs ++ t) xs ≡ Fine
+unfolding checkNewBlock numAt
+again-block depth low high r xs some lx fx ok t =
+    let q = new-reads depth low r xs some lx fx ok in
+    let nb = newBlock depth r xs ++ t in
+    let n : length nb ≡ length (newBlock depth r xs) + length t = length-append (newBlock depth r xs) t in
+    let f : numAt 10 2 nb ≡ numAt 10 2 r = q .flags-word t in
+    let w : numAt 8 2 nb ≡ numAt 8 2 r = ap (num 256) (word-same depth low r xs some lx fx ok t 0 2 (omega arith)) in
+    let own : xs ≡ take (length xs) (samplesOf depth nb) = sym (ap (take (length xs)) (q .samples t) ∙ take-at xs (drop (length xs) (samplesOf depth r)) (length xs) refl) in
+    pass _ _ (le-ltb (length nb) 16 (omega (arith, q .long)))
+    and-then pass _ _ (ap not (q .mark t))
+    and-then pass _ _ (ne-eqb (numAt 8 2 nb) 0 (λ e. omega (arith, ok .bits)))
+    and-then pass _ _ (ne-eqb (numAt 8 2 nb) 1 (λ e. omega (arith, ok .bits)))
+    and-then pass _ _ (le-ltb 1 (numAt 10 2 nb) (omega (arith, ok .flags)))
+    and-then pass _ _ (q .within t)
+    and-then pass _ _ (le-ltb (length nb) (sizeOf depth nb) (omega (arith, q .size t)))
+    and-then pass _ _ (ap not (own-fits depth nb xs low high (q .within t) some own))

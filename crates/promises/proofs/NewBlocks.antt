@@ -1,0 +1,314 @@
+-- A template's block with new samples reads as those samples, and then the template's.
+use Prim.Native.Nat.{ℕ, zero, suc, _+_, _-_, _*_, _≤_, _<_, min}
+use mathlib.Core.Path.{_≡_, refl, sym, ap, ap₂, _∙_, subst}
+use mathlib.Core.Bool.{Bool, true, false, cond}
+use mathlib.Core.List.{List, [], _∷_, _++_, append-nil, append-assoc}
+use mathlib.Core.Logic.{⊎-elim}
+use native.Mathlib.Omega.{arith}
+use lib.ListN.{length, getD, take, drop, length-append, length-drop, length-map, drop-of-length-le}
+use lib.Seq.{take-at, drop-at, length-take-le}
+use lib.IntN.{ℤ, pos, negsuc, _+ℤ_}
+use lib.Dec.{ltb, leb}
+use mir.Syntax.{w32}
+use mir.Val.{SFits}
+use borrow.Author.Tests.{ltb-true, ltb-false, leb-true, eqb-false, not-false}
+use Rattle.format.specs.Lists.{from, same}
+use Rattle.format.specs.Numbers.{num, numAt, value, codeOf, plus}
+use Rattle.format.specs.Packed.{Coding, Differences, Raw, Beyond, coding, widthOf, codes, values, packing, rebuilt, isBeyond}
+use Rattle.format.specs.Blocks.{blockMark, isBlock, baseOf, bitsOf, codingOf, sizeOf, decoded, samplesOf}
+use Rattle.format.specs.Encoding.{differences, head0}
+use Rattle.format.specs.Reencoding.{newValues, valuesFor, baseFor, newBlock, checkNewBlock}
+use Rattle.format.specs.declared.refusals.Checked.the-variants.{Fine}
+use Rattle.laws.proofs.Tests.{never}
+use Rattle.laws.proofs.Parts.{below-suc, from-skip, from-within, from-front, from-from, length-from}
+use Rattle.laws.proofs.Checks.{first-fine, others-fine, passed}
+use Rattle.laws.proofs.Digits.{length-codes, length-le, num-le}
+use Rattle.laws.proofs.Signs.{Holds, AllHold, code-lt, value-code, values-packing, length-packing, every-holds}
+use Rattle.laws.proofs.Wrap.{Fit, difference-back, wrap-is}
+use Rattle.promises.proofs.BlockLaws.{Reads, length-differences}
+
+-- ---- samples rebuilt from new differences, and then the old ones
+splice : (x : ℤ) (xs : List ℤ) (w e : ℤ) (es : List ℤ) → Fit (x ∷ xs) → SFits w32 w
+    → rebuilt x (take (length (x ∷ xs)) (differences ((x ∷ xs) ++ rebuilt w (e ∷ es))) ++ (e ∷ es)) ≡ (x ∷ xs) ++ rebuilt w (e ∷ es)
+unfolding rebuilt differences
+splice x [] w e es f g = ap (λ (z : ℤ). x ∷ rebuilt z (e ∷ es)) (difference-back w x g (f 0))
+splice x (y ∷ xs) w e es f g =
+    ap (λ (z : ℤ). x ∷ rebuilt z (take (length (y ∷ xs)) (differences ((y ∷ xs) ++ rebuilt w (e ∷ es))) ++ (e ∷ es))) (difference-back y x (f 1) (f 0))
+    ∙ ap (λ (l : List ℤ). x ∷ l) (splice y xs w e es (λ i. f (suc i)) g)
+
+-- the last difference is unused
+last-unused : (x : ℤ) (xs : List ℤ) (o : ℤ) → Fit (x ∷ xs) → rebuilt x (take (length xs) (differences (x ∷ xs)) ++ (o ∷ [])) ≡ x ∷ xs
+unfolding rebuilt differences
+last-unused x [] o f = refl
+last-unused x (y ∷ xs) o f =
+    ap (λ (z : ℤ). x ∷ rebuilt z (take (length xs) (differences (y ∷ xs)) ++ (o ∷ []))) (difference-back y x (f 1) (f 0))
+    ∙ ap (λ (l : List ℤ). x ∷ l) (last-unused y xs o (λ i. f (suc i)))
+
+drop-rebuilt : (base : ℤ) (ds : List ℤ) (a : ℕ) → a < length ds → drop a (rebuilt base ds) ≡ rebuilt (getD (rebuilt base ds) a (pos 0)) (drop a ds)
+unfolding rebuilt
+drop-rebuilt base [] a h = absurd (omega arith)
+drop-rebuilt base (d ∷ ds) zero h = refl
+drop-rebuilt base (d ∷ ds) (suc a) h = drop-rebuilt (plus base d) ds a (omega arith)
+
+pub length-rebuilt : (base : ℤ) (ds : List ℤ) → length (rebuilt base ds) ≡ length ds
+unfolding rebuilt
+length-rebuilt base [] = refl
+length-rebuilt base (d ∷ ds) = ap suc (length-rebuilt (plus base d) ds)
+
+pub rebuilt-fit : (base : ℤ) (ds : List ℤ) → SFits w32 base → Fit (rebuilt base ds)
+unfolding rebuilt
+rebuilt-fit base [] f i = record { sfits = omega arith }
+rebuilt-fit base (d ∷ ds) f zero = f
+rebuilt-fit base (d ∷ ds) f (suc i) = rebuilt-fit (plus base d) ds (wrap-is (base +ℤ d)) i
+
+pub length-values : (b : ℕ) (s : List ℕ) → length (values b s) ≡ 512
+unfolding values
+length-values b s = length-map (codes b s) (value b) ∙ length-codes b s
+
+-- vs are the template's differences, x and xs the active samples
+module _ (base : ℤ) (vs : List ℤ) (x : ℤ) (xs : List ℤ) (sb : SFits w32 base) (lv : length vs ≡ 512) (lx : length (x ∷ xs) ≤ 512) (fx : Fit (x ∷ xs)) where
+  abbrev ys : List ℤ
+  ys = x ∷ xs
+
+  abbrev old : List ℤ
+  old = drop (length ys) (rebuilt base vs)
+
+  -- k new differences, and then the template's, give the new samples, and then the template's
+  abbrev Spliced : ℕ → Type 0
+  Spliced k = rebuilt x (take k (differences (ys ++ old)) ++ drop k vs) ≡ ys ++ old
+
+  spliced-few : length ys < 512 → Spliced (length ys)
+  spliced-few h =
+      let n = length ys in
+      let l : length (drop n vs) ≡ 512 - n = length-drop n vs ∙ ap (λ (k : ℕ). k - n) lv in
+      subst (λ (zs : List ℤ). rebuilt x (take n (differences (ys ++ zs)) ++ drop n vs) ≡ ys ++ zs) (sym (drop-rebuilt base vs n (omega arith)))
+      (by (getD (rebuilt base vs) n (pos 0)) (rebuilt-fit base vs sb n) (drop n vs) (omega arith))
+    where
+      by : (w : ℤ) → SFits w32 w → (es : List ℤ) → 1 ≤ length es → rebuilt x (take (length ys) (differences (ys ++ rebuilt w es)) ++ es) ≡ ys ++ rebuilt w es
+      by w f [] p = absurd (omega arith)
+      by w f (e ∷ es) p = splice x xs w e es fx f
+
+  spliced-all : length ys ≡ 512 → Spliced 511
+  spliced-all h =
+      let none : old ≡ [] = drop-of-length-le (rebuilt base vs) {i = length ys} (omega (arith, length-rebuilt base vs)) in
+      let l : length (drop 511 vs) ≡ 1 = length-drop 511 vs ∙ omega arith in
+      let k : length xs ≡ 511 = omega arith in
+      subst (λ (zs : List ℤ). rebuilt x (take 511 (differences zs) ++ drop 511 vs) ≡ zs) (sym (ap (λ (zs : List ℤ). ys ++ zs) none ∙ append-nil ys))
+      (subst (λ (m : ℕ). rebuilt x (take m (differences ys) ++ drop 511 vs) ≡ ys) k (by (drop 511 vs) l))
+    where
+      by : (os : List ℤ) → length os ≡ 1 → rebuilt x (take (length xs) (differences ys) ++ os) ≡ ys
+      by [] p = absurd (omega arith)
+      by (o ∷ []) p = last-unused x xs o fx
+      by (o ∷ q ∷ os) p = absurd (omega arith)
+
+  pub spliced : Spliced (min (length ys) 511)
+  spliced =
+      ⊎-elim
+      (λ (e : length ys ≡ 512). let m : 511 ≡ min (length ys) 511 = omega arith in subst Spliced m (spliced-all e))
+      (λ (l : length ys < 512). let m : length ys ≡ min (length ys) 511 = omega arith in subst Spliced m (spliced-few l))
+      (below-suc (length ys) 512 (omega arith))
+
+-- ---- the bytes of a block in parts: mark, base, bits with flags and padding, and the run
+module _ (a b w pk : List ℕ) (la : length a ≡ 4) (lb : length b ≡ 4) (lw : length w ≡ 8) (t : List ℕ) where
+  parted : (a ++ (b ++ (w ++ pk))) ++ t ≡ a ++ (b ++ (w ++ (pk ++ t)))
+  parted = append-assoc a (b ++ (w ++ pk)) t ∙ ap (λ (x : List ℕ). a ++ x) (append-assoc b (w ++ pk) t ∙ ap (λ (x : List ℕ). b ++ x) (append-assoc w pk t))
+
+  part-mark : take 4 ((a ++ (b ++ (w ++ pk))) ++ t) ≡ a
+  part-mark = ap (take 4) parted ∙ take-at a (b ++ (w ++ (pk ++ t))) 4 la
+
+  part-base : from 4 4 ((a ++ (b ++ (w ++ pk))) ++ t) ≡ b
+  part-base = ap (from 4 4) parted ∙ from-skip a (b ++ (w ++ (pk ++ t))) 4 0 4 la ∙ from-front 4 b (w ++ (pk ++ t)) lb
+
+  part-word : (k n : ℕ) → k + n ≤ 8 → from (4 + (4 + k)) n ((a ++ (b ++ (w ++ pk))) ++ t) ≡ from k n w
+  part-word k n h =
+      ap (from (4 + (4 + k)) n) parted ∙ from-skip a (b ++ (w ++ (pk ++ t))) 4 (4 + k) n la ∙ from-skip b (w ++ (pk ++ t)) 4 k n lb
+      ∙ from-within k n w (pk ++ t) (omega arith)
+
+  part-run : drop 16 ((a ++ (b ++ (w ++ pk))) ++ t) ≡ pk ++ t
+  part-run =
+      ap (drop 16) (parted ∙ sym (append-assoc a b (w ++ (pk ++ t))) ∙ sym (append-assoc (a ++ b) w (pk ++ t)))
+      ∙ drop-at ((a ++ b) ++ w) (pk ++ t) 16 (length-append (a ++ b) w ∙ omega (arith, length-append a b))
+
+-- ---- what a passed check of a template's block tells
+pub record Template (depth : ℕ) (r : List ℕ) (xs : List ℤ) : Type 0 where
+  pub head : 16 ≤ length r
+  pub mark : isBlock r ≡ true
+  pub bits : 2 ≤ numAt 8 2 r
+  pub flags : numAt 10 2 r < 2
+  pub within : isBeyond (codingOf depth r) ≡ false
+  pub sized : sizeOf depth r ≤ length r
+  pub fit : AllHold (widthOf (codingOf depth r)) (valuesFor depth r xs)
+
+pub template-ok : (depth : ℕ) (r : List ℕ) (xs : List ℤ) → checkNewBlock depth r xs ≡ Fine → Template depth r xs
+unfolding checkNewBlock
+template-ok depth r xs e =
+    let e2 = others-fine _ _ e in
+    let e3 = others-fine _ _ e2 in
+    let e4 = others-fine _ _ e3 in
+    let e5 = others-fine _ _ e4 in
+    let e6 = others-fine _ _ e5 in
+    let e7 = others-fine _ _ e6 in
+    let e8 = others-fine _ _ e7 in
+    let not0 = eqb-false (numAt 8 2 r) 0 (passed _ _ (first-fine _ _ e3)) in
+    let not1 = eqb-false (numAt 8 2 r) 1 (passed _ _ (first-fine _ _ e4)) in
+    let f = ltb-false 1 (numAt 10 2 r) (passed _ _ (first-fine _ _ e5)) in
+    record {
+      head = ltb-false (length r) 16 (passed _ _ (first-fine _ _ e));
+      mark = not-false _ (passed _ _ (first-fine _ _ e2));
+      bits = omega arith;
+      flags = omega arith;
+      within = passed _ _ (first-fine _ _ e6);
+      sized = ltb-false (length r) (sizeOf depth r) (passed _ _ (first-fine _ _ e7));
+      fit = every-holds (widthOf (codingOf depth r)) (valuesFor depth r xs) (not-false _ (passed _ _ e8));
+    }
+
+-- a width is the depth, or from 1 to 32
+module _ (P : ℕ → Type 0) (small : (n : ℕ) → suc n ≤ 32 → P (suc n)) where
+  width-by : (n : ℕ) (c : Coding) → widthOf c ≡ suc n → (t : Bool) → leb (suc n) 32 ≡ t → isBeyond (cond t c Beyond) ≡ false → P (widthOf (cond t c Beyond))
+  unfolding isBeyond
+  width-by n c w true q e = subst P (sym w) (small n (leb-true (suc n) 32 q))
+  width-by n c w false q e = never e
+
+  width-in : (depth : ℕ) (z : ℤ) → P depth → isBeyond (coding depth z) ≡ false → P (widthOf (coding depth z))
+  unfolding coding widthOf
+  width-in depth (pos zero) d = λ e. d
+  width-in depth (pos (suc n)) d = width-by n (Differences (suc n)) refl (leb (suc n) 32) refl
+  width-in depth (negsuc n) d = width-by n (Raw (suc n)) refl (leb (suc n) 32) refl
+
+pub width-some : (depth : ℕ) (z : ℤ) → 1 ≤ depth → isBeyond (coding depth z) ≡ false → 1 ≤ widthOf (coding depth z)
+width-some = width-in (λ w. 1 ≤ w) (λ n u. omega arith)
+
+pub width-most : (depth : ℕ) (z : ℤ) → depth ≤ 32 → isBeyond (coding depth z) ≡ false → widthOf (coding depth z) ≤ 32
+width-most = width-in (λ w. w ≤ 32) (λ n u. u)
+
+-- the samples that the new block has
+abbrev pub newSamples : ℕ → List ℕ → List ℤ → List ℤ
+newSamples depth r xs = xs ++ drop (length xs) (samplesOf depth r)
+
+-- a read number of 32 bits
+pub value-fits : (n : ℕ) → SFits w32 (value 32 n)
+value-fits n = by (ltb n 2147483648) refl
+  where
+    by : (t : Bool) → ltb n 2147483648 ≡ t → SFits w32 (cond t (pos n) (negsuc (4294967296 - suc n)))
+    by true e = record { sfits = omega (arith, ltb-true n 2147483648 e) }
+    by false e = record { sfits = omega (arith, ltb-false n 2147483648 e) }
+
+base-4 : (k : Coding) (r : List ℕ) (xs : List ℤ) → 16 ≤ length r → length (baseFor k r xs) ≡ 4
+unfolding baseFor
+base-4 (Differences b) r xs h = length-le 4 (codeOf 32 (head0 xs))
+base-4 (Raw b) r xs h = length-from 4 4 r (omega arith)
+base-4 Beyond r xs h = length-from 4 4 r (omega arith)
+
+pub new-raw : (b : ℕ) (old : List ℤ) (run : List ℕ) (xs : List ℤ) → newValues (Raw b) old run xs ≡ xs ++ drop (length xs) (values b (take (64 * b) run))
+unfolding newValues
+new-raw b old run xs = refl
+
+pub new-differences : (b : ℕ) (old : List ℤ) (run : List ℕ) (xs : List ℤ)
+    → newValues (Differences b) old run xs ≡ take (min (length xs) 511) (differences (xs ++ drop (length xs) old)) ++ drop (min (length xs) 511) (values b (take (64 * b) run))
+unfolding newValues
+new-differences b old run xs = refl
+
+-- what is packed anew, read with what was coded so
+module _ (base : ℤ) (sb : SFits w32 base) (run t : List ℕ) where
+  new-512 : (xs : List ℤ) → length xs ≤ 512 → (k : Coding) → isBeyond k ≡ false → length (newValues k (decoded k base run) run xs) ≡ 512
+  unfolding newValues isBeyond decoded
+  new-512 xs lx (Raw b) e =
+      let v = length-values b (take (64 * b) run) in
+      length-append xs (drop (length xs) (values b (take (64 * b) run))) ∙ omega (arith, length-drop (length xs) (values b (take (64 * b) run)))
+  new-512 xs lx (Differences b) e =
+      let vs = values b (take (64 * b) run) in
+      let n = min (length xs) 511 in
+      let ys = xs ++ drop (length xs) (rebuilt base vs) in
+      let v = length-values b (take (64 * b) run) in
+      let y : length ys ≡ 512 = length-append xs (drop (length xs) (rebuilt base vs)) ∙ omega (arith, length-drop (length xs) (rebuilt base vs), length-rebuilt base vs) in
+      let d : length (take n (differences ys)) ≡ n = length-take-le n (differences ys) (omega (arith, length-differences ys)) in
+      length-append (take n (differences ys)) (drop n vs) ∙ omega (arith, length-drop n vs)
+  new-512 xs lx Beyond e = never e
+
+  decode-new : (xs : List ℤ) → 1 ≤ length xs → length xs ≤ 512 → Fit xs → (k : Coding) (r : List ℕ) → isBeyond k ≡ false → 1 ≤ widthOf k
+      → AllHold (widthOf k) (newValues k (decoded k base run) run xs)
+      → decoded k (value 32 (num 256 (baseFor k r xs))) (packing (widthOf k) (newValues k (decoded k base run) run xs) ++ t) ≡ xs ++ drop (length xs) (decoded k base run)
+  unfolding decoded isBeyond widthOf baseFor head0
+  decode-new xs some lx fx (Raw b) r e w h =
+      let new = newValues (Raw b) (values b (take (64 * b) run)) run xs in
+      ap (values b) (take-at (packing b new) t (64 * b) (length-packing b new))
+      ∙ values-packing b w new (new-512 xs lx (Raw b) refl) h
+      ∙ new-raw b (values b (take (64 * b) run)) run xs
+  decode-new [] some lx fx (Differences b) r e w h = absurd (omega arith)
+  decode-new (x ∷ xs) some lx fx (Differences b) r e w h =
+      let vs = values b (take (64 * b) run) in
+      let new = newValues (Differences b) (rebuilt base vs) run (x ∷ xs) in
+      let small : Holds 32 x = fx 0 .sfits in
+      ap₂ (λ (z : ℤ) (l : List ℕ). rebuilt z (values b l)) (ap (value 32) (num-le 4 (codeOf 32 x) (code-lt 32 (omega arith) x small)) ∙ value-code 32 (omega arith) x small)
+      (take-at (packing b new) t (64 * b) (length-packing b new))
+      ∙ ap (rebuilt x) (values-packing b w new (new-512 (x ∷ xs) lx (Differences b) refl) h ∙ new-differences b (rebuilt base vs) run (x ∷ xs))
+      ∙ spliced base vs x xs sb (length-values b (take (64 * b) run)) lx fx
+  decode-new xs some lx fx Beyond r e w h = never e
+
+-- ---- the template's block that r begins with, with the active samples xs
+module _ (depth : ℕ) (low : 1 ≤ depth) (r : List ℕ) (xs : List ℤ) (some : 1 ≤ length xs) (lx : length xs ≤ 512) (fx : Fit xs) (ok : Template depth r xs) where
+  abbrev c : Coding
+  c = codingOf depth r
+
+  abbrev base : List ℕ
+  base = baseFor c r xs
+
+  abbrev pk : List ℕ
+  pk = packing (widthOf c) (valuesFor depth r xs)
+
+  la : length (take 4 r) ≡ 4
+  la = length-take-le 4 r (omega (arith, ok .head))
+
+  lb : length base ≡ 4
+  lb = base-4 c r xs (ok .head)
+
+  lw : length (from 8 8 r) ≡ 8
+  lw = length-from 8 8 r (omega (arith, ok .head))
+
+  wide : 1 ≤ widthOf c
+  unfolding codingOf
+  wide = width-some depth (bitsOf r) low (ok .within)
+
+  -- is as long as it was
+  pub new-length : length (newBlock depth r xs) ≡ sizeOf depth r
+  unfolding newBlock sizeOf
+  new-length =
+      length-append (take 4 r) (base ++ (from 8 8 r ++ pk))
+      ∙ omega (arith, la, lb, lw, length-append base (from 8 8 r ++ pk), length-append (from 8 8 r) pk, length-packing (widthOf c) (valuesFor depth r xs))
+
+  -- bytes 8 to 15 stay
+  pub word-same : (t : List ℕ) (k n : ℕ) → k + n ≤ 8 → from (4 + (4 + k)) n (newBlock depth r xs ++ t) ≡ from (8 + k) n r
+  unfolding newBlock
+  word-same t k n h = part-word (take 4 r) base (from 8 8 r) pk la lb lw t k n h ∙ from-from k n 8 8 r h (ok .head)
+
+  coding-same : (t : List ℕ) → codingOf depth (newBlock depth r xs ++ t) ≡ c
+  unfolding codingOf bitsOf numAt
+  coding-same t = ap (λ (l : List ℕ). coding depth (value 16 (num 256 l))) (word-same t 0 2 (omega arith))
+
+  base-new : (t : List ℕ) → baseOf (newBlock depth r xs ++ t) ≡ value 32 (num 256 base)
+  unfolding baseOf numAt newBlock
+  base-new t = ap (λ (l : List ℕ). value 32 (num 256 l)) (part-base (take 4 r) base (from 8 8 r) pk la lb lw t)
+
+  run-new : (t : List ℕ) → drop 16 (newBlock depth r xs ++ t) ≡ pk ++ t
+  unfolding newBlock
+  run-new t = part-run (take 4 r) base (from 8 8 r) pk la lb lw t
+
+  mark-same : (t : List ℕ) → take 4 (newBlock depth r xs ++ t) ≡ take 4 r
+  unfolding newBlock
+  mark-same t = part-mark (take 4 r) base (from 8 8 r) pk la lb lw t
+
+  -- reads as the new samples, and then the template's
+  pub new-reads : Reads depth (numAt 10 2 r) (newSamples depth r xs) (newBlock depth r xs)
+  unfolding samplesOf sizeOf isBlock numAt valuesFor baseOf
+  new-reads =
+      record {
+        long = omega (arith, new-length, wide);
+        size = λ t. ap (λ (k : Coding). 16 + 64 * widthOf k) (coding-same t) ∙ sym new-length;
+        mark = λ t. ap (λ (l : List ℕ). same l blockMark) (mark-same t) ∙ ok .mark;
+        flags-word = λ t. ap (num 256) (word-same t 2 2 (omega arith));
+        within = λ t. ap isBeyond (coding-same t) ∙ ok .within;
+        samples = λ t.
+            ap (λ (k : Coding). decoded k (baseOf (newBlock depth r xs ++ t)) (drop 16 (newBlock depth r xs ++ t))) (coding-same t)
+            ∙ ap₂ (decoded c) (base-new t) (run-new t)
+            ∙ decode-new (baseOf r) (value-fits (numAt 4 4 r)) (drop 16 r) t xs some lx fx c r (ok .within) wide (ok .fit);
+      }

@@ -1,0 +1,331 @@
+-- A template's group with new samples decodes to those samples, and is as long as it was; with its own samples it stays.
+use Prim.Native.Nat.{ℕ, zero, suc, _+_, _*_, _/_, _%_, _≤_, _<_}
+use mathlib.Core.Path.{_≡_, refl, sym, ap, ap₂, _∙_, subst}
+use mathlib.Core.Bool.{Bool, true, false, cond, not, _&&_}
+use mathlib.Core.List.{List, [], _∷_, _++_, append-nil, append-assoc}
+use native.Mathlib.Omega.{arith}
+use lib.ListN.{length, getD, take, drop, length-append, length-drop, take-append-drop, List·getD-append}
+use lib.Seq.{ext-getD, getD-take, length-take-le, take-append-le, take-at, drop-length}
+use lib.IntN.{ℤ, pos}
+use lib.Dec.{eqb, eqb·suc-zero}
+use borrow.Author.Tests.{eqb-true, le-ltb, not-false}
+use Rattle.format.specs.Lists.{tab, joined, same}
+use Rattle.format.specs.Numbers.{num, numAt, Below}
+use Rattle.format.specs.Blocks.{blockMark, isBlock, midBit, floatBit, sizeOf, samplesOf, rest}
+use Rattle.format.specs.MidSide.{left, leftRight}
+use Rattle.format.specs.Decoding.{isFloat, checkBlock, checkGroup, coded, channelsOf, woven, active, groupSamples}
+use Rattle.format.specs.Encoding.{plain, midSide, parity}
+use Rattle.format.specs.Reencoding.{newBlock, checkNewBlock, activeIn, checkNewGroup, newGroup}
+use Rattle.format.specs.declared.refusals.Checked.the-variants.{Fine}
+use Rattle.format.specs.declared.settings.SampleFormat.the-variants.{Pcm}
+use Rattle.format.specs.declared.answers.Fields.{Fields}
+use Rattle.laws.proofs.Parts.{length-tab, getD-tab, from-within}
+use Rattle.laws.proofs.Checks.{pass, _and-then_, in-order, first-fine, others-fine, passed, order-fine}
+use Rattle.laws.proofs.Signs.{AllHold}
+use Rattle.laws.proofs.Wrap.{Fit}
+use Rattle.promises.proofs.BlockLaws.{Reads, fit}
+use Rattle.promises.proofs.Channels.{Level, plain-at, plain-level, woven-back, woven-at, active-low}
+use Rattle.promises.proofs.Stereo.{both-level, both-back, sides-follow, two-channels, left-at, frame-same}
+use Rattle.promises.proofs.GroupLaws.{not-float, front, rest-is, coded-is, group-fine, first-flags, first-mark, first-pcm, group-long}
+use Rattle.promises.proofs.GroupCoding.{Group}
+use Rattle.promises.proofs.NewBlocks.{Template, template-ok, newSamples, new-length, new-reads}
+use Rattle.promises.proofs.Bytes.{below-rest}
+use Rattle.promises.proofs.Kept.{block-kept, samples-512, samples-fit, again-block}
+
+-- a template's group bs was accepted with the samples s
+pub record Accepted (h : Fields) (g : ℕ) (bs : List ℕ) (s : List ℤ) : Type 0 where
+  pub some : 1 ≤ h .channels
+  pub low : 1 ≤ h .depth
+  pub high : h .depth ≤ 32
+  pub begun : 1 ≤ active (h .frames) g
+  pub long : length s ≡ h .channels * active (h .frames) g
+  pub hold : AllHold (h .depth) s
+  pub fine : checkNewGroup (h .depth) (h .channels) bs s ≡ Fine
+
+module _ {h : Fields} {g : ℕ} {bs : List ℕ} {s : List ℤ} (ok : Accepted h g bs s) where
+  abbrev k : ℕ
+  k = active (h .frames) g
+
+  abbrev n : ℕ
+  n = h .channels
+
+  -- what begins with the template's block of channel c
+  abbrev r : ℕ → List ℕ
+  r c = rest (h .depth) bs c
+
+  -- the active samples of the channels
+  abbrev chans : List (List ℤ)
+  chans = activeIn n bs s
+
+  -- ---- what passed
+  stereo-ok : (midBit bs && not (eqb n 2)) ≡ false
+  unfolding checkNewGroup
+  stereo-ok = passed _ _ (first-fine _ _ (others-fine _ _ (ok .fine)))
+
+  parity-ok : (midBit bs && not (parity (plain n s))) ≡ false
+  unfolding checkNewGroup
+  parity-ok = passed _ _ (first-fine _ _ (others-fine _ _ (others-fine _ _ (ok .fine))))
+
+  two-ok : midBit bs ≡ true → n ≡ 2
+  two-ok m = eqb-true n 2 (not-false _ (subst (λ (b : Bool). (b && not (eqb n 2)) ≡ false) m stereo-ok))
+
+  even-ok : midBit bs ≡ true → parity (plain n s) ≡ true
+  even-ok m = not-false _ (subst (λ (b : Bool). (b && not (parity (plain n s))) ≡ false) m parity-ok)
+
+  pub blocks-ok : (c : ℕ) → c < n → Template (h .depth) (r c) (getD chans c [])
+  unfolding checkNewGroup
+  blocks-ok c q =
+      template-ok (h .depth) (r c) (getD chans c [])
+      (order-fine (λ c. checkNewBlock (h .depth) (r c) (getD chans c [])) c n q (first-fine _ _ (others-fine _ _ (others-fine _ _ (others-fine _ _ (ok .fine))))))
+
+  none-left : length (r n) ≡ 0
+  unfolding checkNewGroup
+  none-left = eqb-true (length (r n)) 0 (not-false _ (passed _ _ (others-fine _ _ (others-fine _ _ (others-fine _ _ (others-fine _ _ (ok .fine)))))))
+
+  -- ---- the active samples
+  chans-plain : midBit bs ≡ false → chans ≡ plain n s
+  unfolding activeIn
+  chans-plain = ap (λ (t : Bool). cond t (midSide (plain n s)) (plain n s))
+
+  chans-both : midBit bs ≡ true → chans ≡ midSide (plain n s)
+  unfolding activeIn
+  chans-both = ap (λ (t : Bool). cond t (midSide (plain n s)) (plain n s))
+
+  plains : Level (h .depth) n k (plain n s)
+  plains = plain-level n k (ok .some) s (ok .long) (h .depth) (ok .hold)
+
+  level : Level (h .depth) n k chans
+  level = by (midBit bs) refl
+    where
+      by : (t : Bool) → midBit bs ≡ t → Level (h .depth) n k chans
+      by true m = subst (Level (h .depth) n k) (sym (chans-both m)) (both-level (h .depth) n k (ok .high) (two-ok m) (plain n s) plains (even-ok m))
+      by false m = subst (Level (h .depth) n k) (sym (chans-plain m)) plains
+
+  -- ---- the blocks
+  abbrev B : ℕ → List ℕ
+  B c = newBlock (h .depth) (r c) (getD chans c [])
+
+  abbrev X : ℕ → List ℤ
+  X c = newSamples (h .depth) (r c) (getD chans c [])
+
+  abbrev flags : ℕ → ℕ
+  flags c = numAt 10 2 (r c)
+
+  chan-some : (c : ℕ) → c < n → 1 ≤ length (getD chans c [])
+  chan-some c q = omega (arith, level .long c q, ok .begun)
+
+  chan-few : (c : ℕ) → c < n → length (getD chans c []) ≤ 512
+  chan-few c q = omega (arith, level .long c q, active-low (h .frames) g)
+
+  chan-fit : (c : ℕ) → c < n → Fit (getD chans c [])
+  chan-fit c q = fit (h .depth) (ok .high) (getD chans c []) (level .hold c q)
+
+  reads : (c : ℕ) → c < n → Reads (h .depth) (flags c) (X c) (B c)
+  reads c q = new-reads (h .depth) (ok .low) (r c) (getD chans c []) (chan-some c q) (chan-few c q) (chan-fit c q) (blocks-ok c q)
+
+  block-long : (c : ℕ) → c < n → length (B c) ≡ sizeOf (h .depth) (r c)
+  block-long c q = new-length (h .depth) (ok .low) (r c) (getD chans c []) (chan-some c q) (chan-few c q) (chan-fit c q) (blocks-ok c q)
+
+  -- ---- the group is as long as the template's
+  length-so-far : (c : ℕ) → c ≤ n → length (joined B c) + length (r c) ≡ length bs
+  unfolding joined rest
+  length-so-far zero q = omega arith
+  length-so-far (suc c) q =
+      let i = length-so-far c (omega arith) in
+      let f = block-long c q in
+      let z = blocks-ok c q .sized in
+      omega (arith, length-append (joined B c) (B c), length-drop (sizeOf (h .depth) (r c)) (r c))
+
+  pub new-group-length : length (newGroup (h .depth) n bs s) ≡ length bs
+  unfolding newGroup
+  new-group-length = omega (arith, length-so-far n (omega arith), none-left)
+
+  -- ---- it decodes to the samples
+  flags-mid : midBit (joined B n) ≡ midBit bs
+  unfolding midBit rest
+  flags-mid = ap (λ (x : ℕ). eqb (x % 2) 1) (first-flags h flags X B reads (ok .some))
+
+  -- sample i of channel c as it is coded
+  new-at : (c i : ℕ) → c < n → i < k → getD (getD (tab n X) c []) i (pos 0) ≡ getD (getD chans c []) i (pos 0)
+  new-at c i q p = ap (λ (x : List ℤ). getD x i (pos 0)) (getD-tab n X c [] q) ∙ List·getD-append (getD chans c []) _ (pos 0) i (omega (arith, level .long c q))
+
+  new-long : (c i : ℕ) → c < n → i < k → i < length (getD (tab n X) c [])
+  new-long c i q p = omega (arith, ap length (getD-tab n X c [] q), length-append (getD chans c []) (drop (length (getD chans c [])) (samplesOf (h .depth) (r c))), level .long c q)
+
+  woven-plain : midBit bs ≡ false → woven k (tab n X) ≡ s
+  woven-plain m =
+      woven-back n k s (ok .long) (tab n X) (length-tab n X)
+      (λ c i q p. new-at c i q p ∙ ap (λ (x : List (List ℤ)). getD (getD x c []) i (pos 0)) (chans-plain m) ∙ plain-at n k (ok .some) s (ok .long) c i q p)
+
+  woven-both : midBit bs ≡ true → woven k (leftRight Pcm (tab n X)) ≡ s
+  woven-both m =
+      let two = two-ok m in
+      woven-back n k s (ok .long) (leftRight Pcm (tab n X)) (two-channels (tab n X) ∙ sym two)
+      (λ c i q p.
+      frame-same i (tab n X) chans (λ d u. new-long d i (omega arith) p) (λ d u. omega (arith, level .long d (omega arith))) (λ d u. new-at d i (omega arith) p) c (omega arith)
+      ∙ ap (λ (x : List (List ℤ)). getD (getD (leftRight Pcm x) c []) i (pos 0)) (chans-both m)
+      ∙ ap (λ (x : List (List ℤ)). getD (getD x c []) i (pos 0)) (both-back (h .depth) n k (ok .high) two (plain n s) plains (even-ok m))
+      ∙ plain-at n k (ok .some) s (ok .long) c i q p)
+
+  mid-bit : flags 0 ≡ 1 → midBit bs ≡ true
+  unfolding midBit rest
+  mid-bit e = ap (λ (x : ℕ). eqb (x % 2) 1) e
+
+  -- the new group reads as the samples
+  pub new-group : Group h g s (newGroup (h .depth) n bs s)
+  unfolding newGroup groupSamples channelsOf
+  new-group =
+      record {
+        fine = group-fine h flags X B reads (λ c q. blocks-ok c q .flags) (λ e. two-ok (mid-bit e));
+        samples = ap₂ (λ (t : Bool) (cs : List (List ℤ)). woven k (cond t (leftRight Pcm cs) cs)) flags-mid (coded-is h flags X B reads) ∙ by (midBit bs) refl;
+        mark = first-mark h flags X B reads (ok .some);
+        pcm = first-pcm h flags X B reads (ok .some) (blocks-ok 0 (ok .some) .flags);
+        long = group-long h flags X B reads n (omega arith);
+      }
+    where
+      by : (t : Bool) → midBit bs ≡ t → woven k (cond t (leftRight Pcm (tab n X)) (tab n X)) ≡ s
+      by true m = woven-both m
+      by false m = woven-plain m
+
+  -- ---- the template's group itself is read
+  first-only : (c : ℕ) → (eqb c 0 && (midBit (r c) && not (eqb n 2))) ≡ false
+  unfolding rest
+  first-only zero = stereo-ok
+  first-only (suc c) = ap (λ (b : Bool). b && (midBit (r (suc c)) && not (eqb n 2))) (eqb·suc-zero c)
+
+  block-accepts : (c : ℕ) → c < n → checkBlock h Pcm c (r c) ≡ Fine
+  unfolding checkBlock isFloat floatBit
+  block-accepts c q =
+      let b = blocks-ok c q in
+      pass _ _ (le-ltb (length (r c)) 16 (b .head))
+      and-then pass _ _ (ap not (b .mark))
+      and-then pass _ _ (not-float (flags c) (b .flags))
+      and-then pass _ _ (first-only c)
+      and-then pass _ _ (b .within)
+      and-then pass _ _ (le-ltb (length (r c)) (sizeOf (h .depth) (r c)) (b .sized))
+
+  template-long : 16 ≤ length bs
+  unfolding rest
+  template-long = blocks-ok 0 (ok .some) .head
+
+  -- the template's own group is read too
+  pub template-group : Group h g (groupSamples h Pcm g bs) bs
+  unfolding checkGroup floatBit rest isBlock numAt
+  template-group =
+      record {
+        fine = in-order (λ c. checkBlock h Pcm c (r c)) n block-accepts and-then pass _ _ (ap (λ (x : ℕ). not (eqb x 0)) none-left);
+        samples = refl;
+        mark = λ t. ap (λ (x : List ℕ). same x blockMark) (take-append-le 4 bs t (omega (arith, template-long))) ∙ blocks-ok 0 (ok .some) .mark;
+        pcm = λ t. ap (λ (x : List ℕ). eqb (num 256 x / 2 % 2) 1) (from-within 10 2 bs t (omega (arith, template-long))) ∙ not-float (numAt 10 2 bs) (blocks-ok 0 (ok .some) .flags);
+        long = subst (λ (x : ℕ). 80 * n ≤ x) new-group-length (new-group .long);
+      }
+
+  -- ---- the new group as a template
+  chans-again : activeIn n (joined B n) s ≡ chans
+  unfolding activeIn
+  chans-again = ap (λ (t : Bool). cond t (midSide (plain n s)) (plain n s)) flags-mid
+
+  -- is accepted with the same samples
+  pub again-group : checkNewGroup (h .depth) n (newGroup (h .depth) n bs s) s ≡ Fine
+  unfolding checkNewGroup newGroup
+  again-group =
+      pass _ _ (le-ltb (length (joined B n)) 12 (omega (arith, group-long h flags X B reads n (omega arith), ok .some)))
+      and-then pass _ _ (ap (λ (b : Bool). b && not (eqb n 2)) flags-mid ∙ stereo-ok)
+      and-then pass _ _ (ap (λ (b : Bool). b && not (parity (plain n s))) flags-mid ∙ parity-ok)
+      and-then in-order (λ c. checkNewBlock (h .depth) (rest (h .depth) (joined B n) c) (getD (activeIn n (joined B n) s) c [])) n
+      (λ c q. let f = front h flags X B reads c q in
+      ap₂ (checkNewBlock (h .depth)) (f .1) (ap (λ (cs : List (List ℤ)). getD cs c []) chans-again)
+      ∙ again-block (h .depth) (ok .low) (ok .high) (r c) (getD chans c []) (chan-some c q) (chan-few c q) (chan-fit c q) (blocks-ok c q) (f .0))
+      and-then pass _ _ (ap (λ (x : List ℕ). not (eqb (length x) 0)) (rest-is h flags X B reads n (omega arith) ∙ drop-length (joined B n)))
+
+  -- and its first channel holds the samples' first channel, mid where it is coded so
+  pub mid-again : getD (activeIn n (newGroup (h .depth) n bs s) s) 0 [] ≡ take k (samplesOf (h .depth) (newGroup (h .depth) n bs s))
+  unfolding newGroup rest
+  mid-again =
+      let f = front h flags X B reads 0 (ok .some) in
+      ap (λ (cs : List (List ℤ)). getD cs 0 []) chans-again
+      ∙ sym (ap (λ (x : List ℕ). take k (samplesOf (h .depth) x)) (f .1) ∙ ap (take k) (reads 0 (ok .some) .samples (f .0)) ∙ take-at (getD chans 0 []) _ k (level .long 0 (ok .some)))
+
+  -- ---- with the template's own samples: S c are those of channel c as they are coded
+  abbrev S : ℕ → List ℤ
+  S c = samplesOf (h .depth) (r c)
+
+  S-long : (c i : ℕ) → c < n → i < k → i < length (getD (tab n S) c [])
+  S-long c i q p = omega (arith, ap length (getD-tab n S c [] q), samples-512 (h .depth) (r c) (blocks-ok c q .within), active-low (h .frames) g)
+
+  read-plain : midBit bs ≡ false → channelsOf h Pcm bs ≡ tab n S
+  unfolding channelsOf coded
+  read-plain = ap (λ (t : Bool). cond t (leftRight Pcm (tab n S)) (tab n S))
+
+  read-both : midBit bs ≡ true → channelsOf h Pcm bs ≡ leftRight Pcm (tab n S)
+  unfolding channelsOf coded
+  read-both = ap (λ (t : Bool). cond t (leftRight Pcm (tab n S)) (tab n S))
+
+  read-count : length (channelsOf h Pcm bs) ≡ n
+  read-count = by (midBit bs) refl
+    where
+      by : (t : Bool) → midBit bs ≡ t → length (channelsOf h Pcm bs) ≡ n
+      by true m = ap length (read-both m) ∙ two-channels (tab n S) ∙ sym (two-ok m)
+      by false m = ap length (read-plain m) ∙ length-tab n S
+
+  module _ (byte : Below 256 bs) (own : s ≡ groupSamples h Pcm g bs) (kept : midBit bs ≡ true → getD chans 0 [] ≡ take k (S 0)) where
+    own-at : (c i : ℕ) → c < n → i < k → getD (getD (plain n s) c []) i (pos 0) ≡ getD (getD (channelsOf h Pcm bs) c []) i (pos 0)
+    unfolding groupSamples
+    own-at c i q p = plain-at n k (ok .some) s (ok .long) c i q p ∙ ap (λ (x : List ℤ). getD x (i * n + c) (pos 0)) own ∙ woven-at n k (channelsOf h Pcm bs) read-count c i q p
+
+    -- where the channels are as they are
+    plain-own : midBit bs ≡ false → (c : ℕ) → c < n → getD chans c [] ≡ take k (S c)
+    plain-own m c q =
+        let e = samples-512 (h .depth) (r c) (blocks-ok c q .within) in
+        ap (λ (cs : List (List ℤ)). getD cs c []) (chans-plain m)
+        ∙ ext-getD (pos 0) (getD (plain n s) c []) (take k (S c)) (plains .long c q ∙ sym (length-take-le k (S c) (omega (arith, active-low (h .frames) g))))
+        (λ i p. let j : i < k = omega (arith, plains .long c q) in
+        own-at c i q j ∙ ap (λ (cs : List (List ℤ)). getD (getD cs c []) i (pos 0)) (read-plain m)
+        ∙ ap (λ (x : List ℤ). getD x i (pos 0)) (getD-tab n S c [] q) ∙ sym (getD-take k (S c) i (pos 0) j))
+
+    -- where they are mid and side: the kept mids decide the sides
+    sides-own : midBit bs ≡ true → getD chans 1 [] ≡ take k (S 1)
+    sides-own m =
+        let two = two-ok m in
+        let e = samples-512 (h .depth) (r 1) (blocks-ok 1 (omega arith) .within) in
+        ap (λ (cs : List (List ℤ)). getD cs 1 []) (chans-both m)
+        ∙ sides-follow (h .depth) n k (ok .high) two (plain n s) plains (even-ok m) (S 0) (S 1) (omega (arith, active-low (h .frames) g))
+        (samples-fit (h .depth) (r 1) (ok .low) (ok .high) (blocks-ok 1 (omega arith) .within))
+        (ap (λ (cs : List (List ℤ)). getD cs 0 []) (sym (chans-both m)) ∙ kept m)
+        (λ i p. sym (own-at 0 i (omega arith) p ∙ ap (λ (cs : List (List ℤ)). getD (getD cs 0 []) i (pos 0)) (read-both m) ∙ left-at i (tab n S) (λ d u. S-long d i (omega arith) p)
+        ∙ ap₂ (λ (x y : List ℤ). left Pcm (getD x i (pos 0)) (getD y i (pos 0))) (getD-tab n S 0 [] (omega arith)) (getD-tab n S 1 [] (omega arith))))
+
+    both-own : midBit bs ≡ true → (c : ℕ) → c < n → getD chans c [] ≡ take k (S c)
+    both-own m zero q = kept m
+    both-own m (suc zero) q = sides-own m
+    both-own m (suc (suc c)) q = absurd (omega (arith, two-ok m))
+
+    chans-own : (c : ℕ) → c < n → getD chans c [] ≡ take k (S c)
+    chans-own c q = by (midBit bs) refl
+      where
+        by : (t : Bool) → midBit bs ≡ t → getD chans c [] ≡ take k (S c)
+        by true m = both-own m c q
+        by false m = plain-own m c q
+
+    block-own : (c : ℕ) → c < n → B c ≡ take (sizeOf (h .depth) (r c)) (r c)
+    block-own c q =
+        block-kept (h .depth) (ok .low) (ok .high) (r c) (below-rest bs byte (h .depth) c) (getD chans c []) (chan-some c q) (blocks-ok c q)
+        (chans-own c q ∙ ap (λ (x : ℕ). take x (S c)) (sym (level .long c q)))
+
+    so-far : (c : ℕ) → c ≤ n → joined B c ++ r c ≡ bs
+    unfolding joined rest
+    so-far zero q = refl
+    so-far (suc c) q =
+        let z = sizeOf (h .depth) (r c) in
+        append-assoc (joined B c) (B c) (drop z (r c))
+        ∙ ap (λ (x : List ℕ). joined B c ++ x) (ap (λ (x : List ℕ). x ++ drop z (r c)) (block-own c q) ∙ take-append-drop z (r c))
+        ∙ so-far c (omega arith)
+
+    -- the group stays
+    pub group-kept : newGroup (h .depth) n bs s ≡ bs
+    unfolding newGroup
+    group-kept = sym (append-nil (joined B n)) ∙ ap (λ (x : List ℕ). joined B n ++ x) (sym (nothing (r n) none-left)) ∙ so-far n (omega arith)
+      where
+        nothing : (x : List ℕ) → length x ≡ 0 → x ≡ []
+        nothing [] e = refl
+        nothing (y ∷ x) e = absurd (omega arith)

@@ -1,0 +1,166 @@
+-- Encoding, then decoding, gives the samples back.
+use Prim.Native.Nat.{ℕ, _*_, _/_, _≤_, _<_}
+use mathlib.Core.Path.{_≡_, refl, ap, ap₂, _∙_, subst}
+use mathlib.Core.Bool.{Bool, true, false, not, _&&_}
+use mathlib.Core.List.{List}
+use native.Mathlib.Omega.{arith}
+use native.Mathlib.Nat.{mul-comm}
+use lib.ListN.{length, take, drop}
+use lib.Seq.{take-at}
+use lib.IntN.{ℤ}
+use lib.Dec.{eqb}
+use borrow.Author.Tests.{ltb-false, eqb-true, le-ltb, not-false}
+use Rattle.format.specs.Lists.{anyBelow, over}
+use Rattle.format.specs.Header.{fieldsOf, groupsOf}
+use Rattle.format.specs.Refusals.{_then_}
+use Rattle.format.specs.Answers.{answered, filled}
+use Rattle.format.specs.Decoding.{checkDecode, decodedOf, checkRoom, decodeOf, decodeInto}
+use Rattle.format.specs.Encoding.{parity, plain, groupIn, isMidSide, checkEncoder, checkSamples, checkStereo, groupAt, fileOf, checkSize, checkEncode, checkEncodeInto, encodeOf, encodeInto}
+use Rattle.format.specs.declared.refusals.Checked.{Checked}
+use Rattle.format.specs.declared.refusals.Checked.the-variants.{Fine, No}
+use Rattle.format.specs.declared.settings.PcmSpec.{PcmSpec}
+use Rattle.format.specs.declared.settings.StereoMode.{StereoMode}
+use Rattle.format.specs.declared.settings.StereoMode.the-variants.{MidSide}
+use Rattle.format.specs.declared.answers.Fields.{Fields}
+use Rattle.format.specs.declared.answers.Outcome.the-variants.{Read, Wrote}
+use Rattle.laws.proofs.Checks.{pass, _and-then_, first-fine, others-fine, passed, found-below}
+use Rattle.promises.proofs.Channels.{group-length, group-holds, groups-joined}
+use Rattle.promises.proofs.GroupCoding.{Group, group-codes}
+use Rattle.promises.proofs.Laid.{Layout, decode-fine, decode-gives}
+use Rattle.promises.proofs.FileLaws.{Small, first, total, head, assembled-layout}
+use Rattle.promises.proofs.SampleChecks.{encoder-ok, frames-ok, values-ok, count-ok}
+
+-- encoding accepts s
+module _ (p : PcmSpec) (mode : StereoMode) (s : List ℤ) (ok : checkEncode p mode s ≡ Fine) where
+  abbrev frames : ℕ
+  frames = length s / p .channels
+
+  abbrev part : ℕ → List ℕ
+  part = groupAt p mode s
+
+  abbrev h : Fields
+  h = head p frames part
+
+  -- ---- what passed
+  writer-ok : checkEncoder p ≡ Fine
+  unfolding checkEncode
+  writer-ok = first-fine _ _ ok
+
+  samples-ok : checkSamples p s ≡ Fine
+  unfolding checkEncode
+  samples-ok = first-fine _ _ (others-fine _ _ ok)
+
+  stereo-ok : checkStereo p mode s ≡ Fine
+  unfolding checkEncode
+  stereo-ok = first-fine _ _ (others-fine _ _ (others-fine _ _ ok))
+
+  size-ok : checkSize p mode s ≡ Fine
+  unfolding checkEncode
+  size-ok = others-fine _ _ (others-fine _ _ (others-fine _ _ ok))
+
+  total-ok : total p frames part < 4294967296
+  unfolding checkSize
+  total-ok = let z = ltb-false 4294967295 (total p frames part) (passed _ _ size-ok) in omega arith
+
+  abbrev odd : ℕ → Bool
+  odd g = not (parity (plain (p .channels) (groupIn (p .channels) s g)))
+
+  mid-ok : (g : ℕ) → g < groupsOf frames → mode ≡ MidSide → (p .channels ≡ 2) × (parity (plain (p .channels) (groupIn (p .channels) s g)) ≡ true)
+  unfolding checkStereo isMidSide
+  mid-ok g l e =
+      let m : isMidSide mode ≡ true = ap isMidSide e in
+      let a = subst (λ (b : Bool). (b && not (eqb (p .channels) 2)) ≡ false) m (passed _ _ (first-fine _ _ stereo-ok)) in
+      let b = subst (λ (b : Bool). (b && anyBelow odd (groupsOf frames)) ≡ false) m (passed _ _ (others-fine _ _ stereo-ok)) in
+      (eqb-true (p .channels) 2 (not-false _ a), not-false _ (found-below odd g (groupsOf frames) l b))
+
+  -- ---- the file
+  module _ (rate : p .«sample_rate» < 4294967296) where
+    small : Small p frames (first p frames part) (total p frames part)
+    unfolding groupsOf
+    small =
+        let v = encoder-ok p writer-ok in
+        let c = count-ok p s samples-ok in
+        record {
+          channels-16 = omega (arith, v .few);
+          bits-16 = omega (arith, v .high);
+          rate-32 = rate;
+          frames-32 = c;
+          start-32 = omega arith;
+          size-32 = total-ok;
+        }
+
+    -- every group reads as its samples
+    groups-ok : (g : ℕ) → g < groupsOf frames → Group h g (groupIn (p .channels) s g) (part g)
+    unfolding groupAt
+    groups-ok g l =
+        let v = encoder-ok p writer-ok in
+        group-codes p mode h refl refl (v .some) (v .low) (v .high) g (groupIn (p .channels) s g) (group-length (p .channels) frames s (frames-ok p s samples-ok) g)
+        (group-holds (p .«bits_per_sample») (p .channels) s g (values-ok p s samples-ok (v .depth))) (mid-ok g l)
+
+    pub layout : Layout (fileOf p mode s) h part
+    unfolding fileOf
+    layout = assembled-layout p frames part small
+
+    -- decoding accepts the file
+    pub decodes : checkDecode (fileOf p mode s) ≡ Fine
+    decodes = let v = encoder-ok p writer-ok in decode-fine layout (groupIn (p .channels) s) (v .some) (v .depth) (v .rate) groups-ok
+
+    -- and gives the samples
+    pub gives-back : decodedOf (fileOf p mode s) ≡ s
+    gives-back =
+        let v = encoder-ok p writer-ok in
+        decode-gives layout (groupIn (p .channels) s) (v .some) (v .depth) (v .rate) groups-ok ∙ groups-joined (p .channels) frames s (frames-ok p s samples-ok)
+
+-- ---- the same of the answers and of the lent memory
+
+-- an answer that something was written
+wrote-fine : (c : Checked) (m n : ℕ) → answered c (Wrote m) .outcome ≡ Wrote n → c ≡ Fine
+wrote-fine Fine m n e = refl
+wrote-fine (No r) m n e = cc
+
+wrote-length : (c : Checked) (m n : ℕ) → answered c (Wrote m) .outcome ≡ Wrote n → m ≡ n
+wrote-length Fine m n e = cc
+wrote-length (No r) m n e = cc
+
+-- encoding wrote n bytes
+module _ (p : PcmSpec) (mode : StereoMode) (s : List ℤ) (rate : p .«sample_rate» < 4294967296) (lent : List ℕ) (n : ℕ) (done : encodeOf p mode s (length lent) .outcome ≡ Wrote n) where
+  fine : checkEncodeInto p mode s (length lent) ≡ Fine
+  unfolding encodeOf
+  fine = wrote-fine (checkEncodeInto p mode s (length lent)) (length (fileOf p mode s)) n done
+
+  file-length : length (fileOf p mode s) ≡ n
+  unfolding encodeOf
+  file-length = wrote-length (checkEncodeInto p mode s (length lent)) (length (fileOf p mode s)) n done
+
+  accepted : checkEncode p mode s ≡ Fine
+  unfolding checkEncodeInto
+  accepted = first-fine _ _ fine
+
+  -- the first n lent bytes are the file
+  pub file-written : take n (encodeInto p mode s lent) ≡ fileOf p mode s
+  unfolding encodeInto over
+  file-written =
+      ap (λ (c : Checked). take n (filled c (fileOf p mode s) lent)) fine
+      ∙ take-at (fileOf p mode s) (drop (length (fileOf p mode s)) lent) n file-length
+
+  module _ (out : List ℤ) (room : length s ≤ length out) where
+    samples-count : fieldsOf (fileOf p mode s) .frames * fieldsOf (fileOf p mode s) .channels ≡ length s
+    samples-count =
+        ap (λ (x : Fields). x .frames * x .channels) (layout p mode s accepted rate .fields)
+        ∙ omega (arith, mul-comm (length s / p .channels) (p .channels), frames-ok p s (samples-ok p mode s accepted))
+
+    both-fine : (checkDecode (fileOf p mode s) then checkRoom (fileOf p mode s) (length out)) ≡ Fine
+    unfolding checkRoom
+    both-fine =
+        decodes p mode s accepted rate
+        and-then pass _ _ (le-ltb (length out) (fieldsOf (fileOf p mode s) .frames * fieldsOf (fileOf p mode s) .channels) (omega (arith, samples-count)))
+
+    -- decoding them into enough room says the samples' number
+    pub answer-back : decodeOf (take n (encodeInto p mode s lent)) (length out) ≡ record { outcome = Read (record { 0 = length s }) }
+    unfolding decodeOf
+    answer-back = ap (λ (f : List ℕ). decodeOf f (length out)) file-written ∙ ap₂ (λ (c : Checked) (k : ℕ). answered c (Read (record { 0 = k }))) both-fine samples-count
+
+    -- and writes the samples
+    pub samples-back : decodeInto (take n (encodeInto p mode s lent)) out ≡ over s out
+    unfolding decodeInto
+    samples-back = ap (λ (f : List ℕ). decodeInto f out) file-written ∙ ap₂ (λ (c : Checked) (w : List ℤ). filled c w out) both-fine (gives-back p mode s accepted rate)

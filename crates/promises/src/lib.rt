@@ -1,0 +1,1 @@
+// The demands, each one theorem with a name: proofs/.
