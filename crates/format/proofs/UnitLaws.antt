@@ -1,7 +1,7 @@
 -- Laws of depths and of the two counts.
 use Prim.Native.Nat.{ℕ, _-_, _*_, _/_, _%_, _^_, _≤_, _<_}
-use mathlib.Core.Path.{_≡_, refl, sym, _∙_}
-use mathlib.Core.Bool.{Bool, true, false, _&&_, cond}
+use mathlib.Core.Path.{_≡_, refl, sym, ap, _∙_}
+use mathlib.Core.Bool.{Bool, true, false, not, _&&_, cond}
 use native.Mathlib.Nat.{mul-le-mul-left, mul-lt-mul-of-pos-right, lt-of-le-of-lt, le-of-lt}
 use native.Mathlib.Omega.{arith}
 use lib.IntN.{ℤ, pos, negsuc}
@@ -9,7 +9,10 @@ use lib.Dec.{eqb, ltb, leb}
 use lib.Pow.{pow-pos}
 use borrow.Author.Tests.{eq-eqb, ne-eqb, lt-ltb, le-ltb, le-leb, lt-leb, ltb-true, ltb-false, eqb-true}
 use Rattle.format.specs.Numbers.{holds}
-use Rattle.format.specs.Units.{bitsIn, bytesIn, within, depthWord, isKnown, orWidest, isDepth, depthOf, framesIn}
+use Rattle.format.specs.Units.{bitsIn, bytesIn, within, depthWord, isKnown, orWidest, isDepth, depthOf, framesIn, framedAs}
+use Rattle.format.specs.Refusals.{refuse, _then_}
+use Rattle.format.specs.declared.refusals.Refusal.the-variants.{IncompleteFrame, TooManyFrames}
+use Rattle.format.specs.declared.units.Framed.{Framed}
 use Rattle.format.specs.declared.units.Depth.{Depth}
 use Rattle.format.specs.declared.units.Depth.the-variants.{Eight, Sixteen, TwentyFour, ThirtyTwo}
 use Rattle.format.specs.declared.units.DepthWord.{DepthWord}
@@ -88,3 +91,18 @@ module _ (s : Samples) (channels : ℕ) where
       pub whole-frames : s .0 / channels ≤ 4294967295 → Whole (record { 0 = s .0 / channels }) ≡ framesIn s channels
       unfolding framesIn
       whole-frames h = rw (ne-eqb channels 0 some, eq-eqb (s .0 % channels) 0 even, le-ltb 4294967295 (s .0 / channels) h)
+
+-- the frames of samples are refused by 31 and 33, as the writers' checks say it
+pub frames-refused : (s : Samples) (channels : ℕ) → 1 ≤ channels
+    → framedAs (framesIn s channels) ≡ (refuse (not (eqb (s .0 % channels) 0)) IncompleteFrame then refuse (ltb 4294967295 (s .0 / channels)) TooManyFrames)
+unfolding framesIn refuse _then_
+frames-refused s channels some = ap (λ (b : Bool). framedAs (cond b Incomplete (cond (eqb (s .0 % channels) 0) counted Incomplete))) (ne-eqb channels 0 (λ e. omega arith)) ∙ by (eqb (s .0 % channels) 0) (ltb 4294967295 (s .0 / channels))
+  where
+    counted : Framed
+    counted = cond (ltb 4294967295 (s .0 / channels)) TooMany (Whole (record { 0 = s .0 / channels }))
+
+    by : (a b : Bool)
+        → framedAs (cond a (cond b TooMany (Whole (record { 0 = s .0 / channels }))) Incomplete) ≡ (refuse (not a) IncompleteFrame then refuse b TooManyFrames)
+    by true true = refl
+    by true false = refl
+    by false b = refl

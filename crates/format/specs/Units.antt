@@ -4,6 +4,9 @@ use mathlib.Core.Bool.{Bool, true, false, _&&_, cond}
 use lib.IntN.{ℤ, pos, negsuc}
 use lib.Signed.{leZ}
 use lib.Dec.{ltb, eqb}
+use Rattle.format.specs.declared.refusals.Checked.{Checked}
+use Rattle.format.specs.declared.refusals.Checked.the-variants.{Fine, No}
+use Rattle.format.specs.declared.refusals.Refusal.the-variants.{IncompleteFrame, TooManyFrames}
 use Rattle.format.specs.declared.units.Depth.{Depth}
 use Rattle.format.specs.declared.units.Depth.the-variants.{Eight, Sixteen, TwentyFour, ThirtyTwo}
 use Rattle.format.specs.declared.units.DepthWord.{DepthWord}
@@ -63,3 +66,9 @@ framesIn s channels =
     let n = s .0 / channels in
     let counted = cond (ltb 4294967295 n) TooMany (Whole (record { 0 = n })) in
     cond (eqb channels 0) Incomplete (cond (eqb (s .0 % channels) 0) counted Incomplete)
+
+-- what is no whole number of frames is refused by these
+abbrev pub framedAs : Framed → Checked
+framedAs (Whole f) = Fine
+framedAs Incomplete = No IncompleteFrame
+framedAs TooMany = No TooManyFrames
