@@ -7,6 +7,7 @@ use lib.IntN.{ℤ, pos}
 use lib.Dec.{ltb, eqb}
 use Rattle.format.specs.Lists.{tab, joined}
 use Rattle.format.specs.Numbers.{le, numAt, value, codeOf}
+use Rattle.format.specs.Units.{samplesIn}
 use Rattle.format.specs.Refusals.{number, refuse, _then_}
 use Rattle.format.specs.Answers.{answered, filled}
 use Rattle.format.specs.Opening.{openOf}
@@ -44,7 +45,7 @@ checkBytes b = refuse (not (eqb (length b % 4) 0)) SampleBytes
 
 -- the length in bytes (for opening, what decoding would write), or 2 ^ 63 plus the refusal number
 abbrev pub result : Outcome → ℕ
-result (Opened h) = 4 * (h .frames .0 * h .channels)
+result (Opened h) = 4 * samplesIn (h .frames) (h .channels) .0
 result (Read n) = 4 * n .0
 result (Wrote n) = n
 result (Refused r) = 2 ^ 63 + number r

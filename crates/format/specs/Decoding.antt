@@ -18,6 +18,7 @@ use Rattle.format.specs.declared.refusals.Refusal.the-variants.{TooShort
 use Rattle.format.specs.declared.refusals.Checked.{Checked}
 use Rattle.format.specs.declared.settings.SampleFormat.{SampleFormat}
 use Rattle.format.specs.declared.settings.SampleFormat.the-variants.{Pcm, Float}
+use Rattle.format.specs.declared.units.Samples.{Samples}
 use Rattle.format.specs.declared.answers.Fields.{Fields}
 use Rattle.format.specs.declared.answers.Outcome.the-variants.{Read}
 use Rattle.format.specs.declared.answers.Answer.{Answer}
@@ -75,13 +76,17 @@ checkDecode s =
 unfoldable pub decodedOf : List ℕ → List ℤ
 decodedOf s = let h = fieldsOf s in joined (λ g. groupSamples h (formatOf s h) g (group s h g)) (groupsOf (h .frames))
 
--- then 50, against frames × channels
+-- how many samples that is: frames × channels
+abbrev pub decodedCount : List ℕ → Samples
+decodedCount s = let h = fieldsOf s in samplesIn (record { 0 = h .frames }) (h .channels)
+
+-- then 50, against that
 unfoldable pub checkRoom : List ℕ → ℕ → Checked
-checkRoom s room = let h = fieldsOf s in refuse (ltb room (h .frames * h .channels)) OutputTooShort
+checkRoom s room = refuse (ltb room (decodedCount s .0)) OutputTooShort
 
 -- the answer, and what the lent samples then hold
 unfoldable pub decodeOf : List ℕ → ℕ → Answer
-decodeOf s room = let h = fieldsOf s in answered (checkDecode s then checkRoom s room) (Read (samplesIn (record { 0 = h .frames }) (h .channels)))
+decodeOf s room = answered (checkDecode s then checkRoom s room) (Read (decodedCount s))
 
 unfoldable pub decodeInto : List ℕ → List ℤ → List ℤ
 decodeInto s out = filled (checkDecode s then checkRoom s (length out)) (decodedOf s) out

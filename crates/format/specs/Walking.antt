@@ -1,5 +1,5 @@
 -- Document 01, "Order of checks": the walk over the file s, which holds the next group's number g.
-use Prim.Native.Nat.{ℕ, _*_, _+_}
+use Prim.Native.Nat.{ℕ, _+_}
 use mathlib.Core.List.{List, []}
 use mathlib.Core.Bool.{Bool, cond}
 use lib.ListN.{length}
@@ -14,6 +14,7 @@ use Rattle.format.specs.Decoding.{checkGroup, active, groupSamples}
 use Rattle.format.specs.declared.refusals.Refusal.the-variants.{OutputTooShort}
 use Rattle.format.specs.declared.refusals.Checked.{Checked}
 use Rattle.format.specs.declared.refusals.Checked.the-variants.{Fine}
+use Rattle.format.specs.declared.units.Samples.{Samples}
 use Rattle.format.specs.declared.answers.Outcome.{Outcome}
 use Rattle.format.specs.declared.answers.Outcome.the-variants.{Opened, Read, Finished, Wrote, Refused}
 use Rattle.format.specs.declared.answers.Answer.{Answer}
@@ -25,8 +26,8 @@ checkStep s g = let h = fieldsOf s in checkGroup h (formatOf s h) (group s h g)
 unfoldable pub stepSamples : List ℕ → ℕ → List ℤ
 stepSamples s g = let h = fieldsOf s in groupSamples h (formatOf s h) g (group s h g)
 
-unfoldable pub stepLength : List ℕ → ℕ → ℕ
-stepLength s g = let h = fieldsOf s in active (h .frames) g * h .channels
+abbrev pub stepCount : List ℕ → ℕ → Samples
+stepCount s g = let h = fieldsOf s in samplesIn (record { 0 = active (h .frames) g }) (h .channels)
 
 -- a group is left
 unfoldable pub isLeft : List ℕ → ℕ → Bool
@@ -34,7 +35,7 @@ isLeft s g = ltb g (groupsOf (fieldsOf s .frames))
 
 -- with 50 after 22
 unfoldable pub checkStepInto : List ℕ → ℕ → ℕ → Checked
-checkStepInto s g room = checkStep s g then refuse (ltb room (stepLength s g)) OutputTooShort
+checkStepInto s g room = checkStep s g then refuse (ltb room (stepCount s g .0)) OutputTooShort
 
 -- a step on bytes that don't open refuses as opening does
 unfoldable pub checkWalk : List ℕ → ℕ → ℕ → Checked
@@ -42,7 +43,7 @@ checkWalk s g room = let checks = checkStepInto s g room in checkOpen s then con
 
 -- a step after the last group says done
 unfoldable pub stepOf : List ℕ → ℕ → ℕ → Answer
-stepOf s g room = answered (checkWalk s g room) (cond (isLeft s g) (Read (samplesIn (record { 0 = active (fieldsOf s .frames) g }) (fieldsOf s .channels))) Finished)
+stepOf s g room = answered (checkWalk s g room) (cond (isLeft s g) (Read (stepCount s g)) Finished)
 
 -- a refused step doesn't advance
 abbrev pub nextAfter : Outcome → ℕ → ℕ
