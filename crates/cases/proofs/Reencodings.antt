@@ -66,6 +66,10 @@ worn = changed 12 4 0xDEADBEEF (block (pos 5) (pos 3) 0 (packing 3 ((pos 1 ∷ r
 abbrev wornAfter : List ℕ
 wornAfter = changed 12 4 0xDEADBEEF (block (pos 4) (pos 3) 0 (packing 3 ((pos 2 ∷ replicate 510 (pos 0)) ++ (pos 3 ∷ []))))
 
+-- all 512 frames active: differences of 0, and a last one of 3
+abbrev full : ℤ → List ℕ
+full base = laid 1 16 512 [] (block base (pos 3) 0 (packing 3 (replicate 511 (pos 0) ++ (pos 3 ∷ []))) ∷ []) []
+
 pub record Reencodings : Type 0 where
   -- 30, 31, 32 before the template's 1, 2, 40, 41, 42, and those before its groups: each fault more is found before all that were there
   pub spec : said (checkReencode (pcm 3 16) (pos 40000 ∷ []) faulty) ≡ 30
@@ -113,6 +117,7 @@ pub record Reencodings : Type 0 where
   pub minus-1 : mono zeros twoGroups ≡ 0
   -- what stays: the padding word, the padded samples, the last difference; the base of a raw block
   pub stays : refileOf (pos 4 ∷ []) (one worn) ≡ one wornAfter
+  pub last-stays : refileOf (replicate 512 (pos 4)) (full (pos 5)) ≡ full (pos 4)
   pub raw-stays : refileOf (pos 9 ∷ []) (one (raw 0 (pos 1))) ≡ one (raw 0 (pos 9))
   -- the second block's flag stays and decides nothing; the other signature stays; bytes around stay
   pub second-flag : refileOf (pos 4 ∷ pos 6 ∷ []) (both (raw 0 (pos 1)) (raw 1 (pos 2))) ≡ both (raw 0 (pos 4)) (raw 1 (pos 6))
@@ -173,6 +178,7 @@ reencodings =
       four-back = refl;
       minus-1 = refl;
       stays = refl;
+      last-stays = refl;
       raw-stays = refl;
       second-flag = refl;
       signature-30 = refl;
