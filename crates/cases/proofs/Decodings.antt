@@ -44,6 +44,13 @@ pub record Decodings : Type 0 where
   pub word-lowest : checkDecode (second (block (pos 0) (negsuc 32767) 0 (replicate 64 0))) ≡ No (BitsWord (negsuc 32767))
   pub values : said (checkDecode (second (block (pos 0) (pos 3) 0 (replicate 64 0)))) ≡ 1
   pub left-over : said (checkDecode (second (block (pos 0) (pos 1) 0 (replicate 65 0)))) ≡ 22
+  -- groups in order, and in a group its channels
+  pub first-group : said (checkDecode (laid 1 16 513 [] ((small ++ (0 ∷ [])) ∷ changed 0 1 0 small ∷ []) [])) ≡ 22
+  pub first-channel : said (checkDecode (stereo 16 (block (pos 0) (pos 33) 0 (replicate 64 0)) (changed 0 1 0 small))) ≡ 4
+  -- 20 both ways; all four bytes of the mark; width 32 is read
+  pub float-then-pcm : said (checkDecode (laid 1 16 513 [] (changed 10 2 2 small ∷ small ∷ []) [])) ≡ 20
+  pub mark-4 : said (checkDecode (second (changed 3 1 0 small))) ≡ 3
+  pub bits-32 : decodedOf (laid 1 16 2 [] (block (pos 1) (pos 32) 0 (packing 32 (pos 2147483647 ∷ replicate 511 (pos 0))) ∷ []) []) ≡ pos 1 ∷ negsuc 2147483647 ∷ []
   -- a first block with bits 33 opens, and decoding refuses 4; a group of 80 bytes: width 1 is read
   pub bits-33 : said (checkDecode (mono 16 (block (pos 0) (pos 33) 0 (replicate 64 0)))) ≡ 4
   pub group-80 : decodedOf (mono 16 small) ≡ pos 7 ∷ []
@@ -68,6 +75,8 @@ pub record Decodings : Type 0 where
   -- 50 comes last; a refusal changes nothing, and what lies after the samples stays
   pub room-enough : decodeOf five 1 ≡ read 1
   pub room-short : decodeOf five 0 ≡ refused OutputTooShort
+  pub room-stereo : decodeOf (stereo 32 (raw 0 (pos 9)) (raw 0 (pos 2))) 1 ≡ refused OutputTooShort
+  pub room-stereo-enough : decodeOf (stereo 32 (raw 0 (pos 9)) (raw 0 (pos 2))) 2 ≡ read 2
   pub room-last : decodeOf (second (block (pos 0) (pos 1) 0 (replicate 65 0))) 0 ≡ refused BytesLeft
   pub kept : decodeInto (second (block (pos 0) (pos 1) 0 (replicate 65 0))) (pos 1 ∷ pos 2 ∷ []) ≡ pos 1 ∷ pos 2 ∷ []
   pub after : decodeInto five (pos 1 ∷ pos 2 ∷ []) ≡ pos 5 ∷ pos 2 ∷ []
@@ -85,6 +94,11 @@ decodings =
       word-lowest = refl;
       values = refl;
       left-over = refl;
+      first-group = refl;
+      first-channel = refl;
+      float-then-pcm = refl;
+      mark-4 = refl;
+      bits-32 = refl;
       bits-33 = refl;
       group-80 = refl;
       group-end = refl;
@@ -102,6 +116,8 @@ decodings =
       lowest-pair = refl;
       room-enough = refl;
       room-short = refl;
+      room-stereo = refl;
+      room-stereo-enough = refl;
       room-last = refl;
       kept = refl;
       after = refl;

@@ -10,8 +10,8 @@ use Rattle.format.specs.Numbers.{numAt}
 use Rattle.format.specs.Header.{fieldsOf}
 use Rattle.format.specs.Blocks.{baseOf, bitsOf, samplesOf}
 use Rattle.format.specs.Decoding.{checkDecode, decodedOf}
-use Rattle.format.specs.Encoding.{takesMid, groupOf, fileOf, checkEncode, encodeOf, encodeInto}
-use Rattle.format.specs.declared.refusals.Refusal.the-variants.{OutputTooShort}
+use Rattle.format.specs.Encoding.{width, takesMid, groupOf, fileOf, checkEncode, encodeOf, encodeInto}
+use Rattle.format.specs.declared.refusals.Refusal.the-variants.{NotStereo, OutputTooShort}
 use Rattle.format.specs.declared.settings.PcmSpec.{PcmSpec}
 use Rattle.format.specs.declared.settings.StereoMode.the-variants.{Auto, Direct, MidSide}
 use Rattle.format.proofs.Made.{document-01, said, wrote, refused, pcm}
@@ -46,6 +46,12 @@ pub record Encodings : Type 0 where
   pub mono-mid : said (checkEncode (pcm 1 16) MidSide []) ≡ 34
   pub odd-in-second : said (checkEncode (pcm 2 16) MidSide oddAtLast) ≡ 35
   pub odd-in-auto : said (checkEncode (pcm 2 16) Auto oddAtLast) ≡ 0
+  pub negative-odd : said (checkEncode (pcm 2 16) MidSide (negsuc 0 ∷ pos 1 ∷ [])) ≡ 0
+  pub negative-differs : said (checkEncode (pcm 2 16) MidSide (negsuc 0 ∷ pos 2 ∷ [])) ≡ 35
+  -- the width, to its end
+  pub width-31 : width (pos 1073741823 ∷ []) ≡ 31
+  pub width-32 : width (pos 1073741824 ∷ []) ≡ 32
+  pub width-lowest : width (negsuc 2147483647 ∷ []) ≡ 32
   -- 512 frames: data offset 128; 513: 132
   pub offset-512 : fieldsOf (fileOf (pcm 1 16) Auto (replicate 512 (pos 1))) .start ≡ 128
   pub offset-513 : fieldsOf (fileOf (pcm 1 16) Auto (replicate 513 (pos 1))) .start ≡ 132
@@ -69,9 +75,11 @@ pub record Encodings : Type 0 where
   -- two groups, there and back
   pub ramp-fine : said (checkDecode (fileOf (pcm 1 16) Auto (ramp 600))) ≡ 0
   pub ramp-back : decodedOf (fileOf (pcm 1 16) Auto (ramp 600)) ≡ ramp 600
-  -- 50: one byte short, and nothing changed
+  pub stereo-back : decodedOf (fileOf (pcm 2 16) Auto (ramp 1026)) ≡ ramp 1026
+  -- 50 last: one byte short, and nothing changed
   pub room : encodeOf (pcm 1 16) Auto (pos 5 ∷ []) 272 ≡ wrote 272
   pub room-short : encodeOf (pcm 1 16) Auto (pos 5 ∷ []) 271 ≡ refused OutputTooShort
+  pub room-last : encodeOf (pcm 1 16) MidSide [] 0 ≡ refused NotStereo
   pub kept : encodeInto (pcm 1 16) Auto (pos 5 ∷ []) (replicate 271 7) ≡ replicate 271 7
 
 pub encodings : Encodings
@@ -92,6 +100,11 @@ encodings =
       mono-mid = refl;
       odd-in-second = refl;
       odd-in-auto = refl;
+      negative-odd = refl;
+      negative-differs = refl;
+      width-31 = refl;
+      width-32 = refl;
+      width-lowest = refl;
       offset-512 = refl;
       offset-513 = refl;
       padding = refl;
@@ -110,7 +123,9 @@ encodings =
       direct-flags = refl;
       ramp-fine = refl;
       ramp-back = refl;
+      stereo-back = refl;
       room = refl;
       room-short = refl;
+      room-last = refl;
       kept = refl;
     }

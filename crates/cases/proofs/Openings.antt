@@ -6,7 +6,7 @@ use lib.ListN.{take, replicate}
 use lib.IntN.{pos}
 use Rattle.format.specs.Opening.{checkOpen, openOf}
 use Rattle.format.specs.Encoding.{block}
-use Rattle.format.specs.declared.units.Depth.the-variants.{Sixteen, ThirtyTwo}
+use Rattle.format.specs.declared.units.Depth.the-variants.{Eight, Sixteen, ThirtyTwo}
 use Rattle.format.specs.declared.settings.SampleFormat.the-variants.{Pcm, Float}
 use Rattle.format.specs.declared.answers.Outcome.the-variants.{Opened}
 use Rattle.format.proofs.Made.{document-01, said, saidAfter, laid, changed, five}
@@ -53,6 +53,8 @@ pub record Openings : Type 0 where
   pub group-79 : said (checkOpen (laid 1 16 1 [] (take 79 small ∷ []) [])) ≡ 19
   pub group-80 : said (checkOpen (laid 1 16 1 [] (small ∷ []) [])) ≡ 0
   pub group-159 : said (checkOpen (laid 2 16 1 [] (take 159 (small ++ small) ∷ []) [])) ≡ 19
+  -- the data's end is no number of 32 bits
+  pub far-size : said (checkOpen (changed 28 4 0xFFFFFFFF five)) ≡ 1
   -- the other signature; bytes before the table and after the data; a bits word of 33 opens
   pub signature-30 : said (checkOpen (changed 4 1 0x30 five)) ≡ 0
   pub signature-32 : said (checkOpen (changed 4 1 0x32 five)) ≡ 2
@@ -63,6 +65,8 @@ pub record Openings : Type 0 where
       ≡ record { outcome = Opened (record { channels = 1; depth = Sixteen; rate = 44100; frames = record { 0 = 1 }; table = 120; start = 128; size = 144; groups = 1; format = Pcm }) }
   pub float-opens : openOf (laid 1 32 2 (0 ∷ []) (block (pos 0) (pos 1) 6 (replicate 64 0) ∷ []) [])
       ≡ record { outcome = Opened (record { channels = 1; depth = ThirtyTwo; rate = 44100; frames = record { 0 = 2 }; table = 121; start = 129; size = 80; groups = 1; format = Float }) }
+  pub floats-open : openOf (laid 1 8 513 [] (changed 10 2 2 small ∷ small ∷ []) [])
+      ≡ record { outcome = Opened (record { channels = 1; depth = Eight; rate = 44100; frames = record { 0 = 513 }; table = 120; start = 132; size = 160; groups = 2; format = Float }) }
   pub none-opens : openOf (laid 65535 16 0 [] [] [])
       ≡ record { outcome = Opened (record { channels = 65535; depth = Sixteen; rate = 44100; frames = record { 0 = 0 }; table = 120; start = 124; size = 0; groups = 0; format = Pcm }) }
 
@@ -79,11 +83,13 @@ openings =
       group-79 = refl;
       group-80 = refl;
       group-159 = refl;
+      far-size = refl;
       signature-30 = refl;
       signature-32 = refl;
       gaps = refl;
       bits-33 = refl;
       five-opens = refl;
       float-opens = refl;
+      floats-open = refl;
       none-opens = refl;
     }

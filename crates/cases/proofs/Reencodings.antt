@@ -9,7 +9,7 @@ use Rattle.format.specs.Decoding.{decodedOf}
 use Rattle.format.specs.Encoding.{block, fileOf}
 use Rattle.format.specs.Reencoding.{checkReencode, refileOf, reencodeOf, reencodeInto}
 use Rattle.format.specs.declared.refusals.Checked.the-variants.{No}
-use Rattle.format.specs.declared.refusals.Refusal.the-variants.{BitsWord, OutputTooShort}
+use Rattle.format.specs.declared.refusals.Refusal.the-variants.{BitsWord, WidthTooSmall, OutputTooShort}
 use Rattle.format.specs.declared.settings.StereoMode.the-variants.{MidSide}
 use Rattle.format.proofs.Made.{document-01, said, saidAfter, wrote, refused, pcm, laid, changed, five}
 
@@ -45,9 +45,13 @@ lowest = both (rawThen (pos 3) 1 (negsuc 2147483647)) (rawThen (pos 3) 0 (negsuc
 abbrev twelve : ℕ → List ℕ
 twelve flags = changed 10 2 flags (replicate 12 0)
 
+-- raw at width 1
+abbrev bit : List ℕ
+bit = block (pos 5) (negsuc 0) 0 (replicate 64 0)
+
 -- two groups of 80 bytes: 513 mono frames, table at 120, data at 132
 abbrev twoGroups : List ℕ
-twoGroups = laid 1 16 513 [] (block (pos 5) (negsuc 0) 0 (replicate 64 0) ∷ block (pos 5) (negsuc 0) 0 (replicate 64 0) ∷ []) []
+twoGroups = laid 1 16 513 [] (bit ∷ bit ∷ []) []
 
 abbrev zeros : List ℤ
 zeros = replicate 513 (pos 0)
@@ -92,6 +96,7 @@ pub record Reencodings : Type 0 where
   pub no-frames : mono [] (changed 120 4 9 (changed 28 4 9 (laid 1 16 0 [] [] (replicate 9 0)))) ≡ 42
   pub none : mono [] (laid 1 16 0 [] [] []) ≡ 0
   -- 43 under 12 bytes; the flags are looked at before 1 and 3
+  pub eleven-mid : mono (pos 5 ∷ []) (one (changed 10 1 1 (replicate 11 0))) ≡ 43
   pub eleven : mono (pos 5 ∷ []) (one (replicate 11 0)) ≡ 43
   pub twelve-plain : mono (pos 5 ∷ []) (one (twelve 0)) ≡ 1
   pub twelve-mid : mono (pos 5 ∷ []) (one (twelve 1)) ≡ 34
@@ -107,6 +112,8 @@ pub record Reencodings : Type 0 where
   pub values : mono (pos 9 ∷ []) (one (block (pos 5) (pos 2) 0 (replicate 127 0))) ≡ 1
   pub does-not-fit : mono (pos 9 ∷ []) (one (small 0 ++ (0 ∷ []))) ≡ 36
   pub left-over : mono (pos 5 ∷ []) (one (small 0 ++ (0 ∷ []))) ≡ 46
+  -- groups in order
+  pub first-group : mono zeros (laid 1 16 513 [] ((bit ++ (0 ∷ [])) ∷ changed 0 1 0 bit ∷ []) []) ≡ 46
   -- the difference from the last active to the first padded sample is determined by the samples
   pub four : mono (pos 4 ∷ []) five ≡ 0
   pub six : mono (pos 6 ∷ []) five ≡ 0
@@ -122,6 +129,7 @@ pub record Reencodings : Type 0 where
   -- the second block's flag stays and decides nothing; the other signature stays; bytes around stay
   pub second-flag : refileOf (pos 4 ∷ pos 6 ∷ []) (both (raw 0 (pos 1)) (raw 1 (pos 2))) ≡ both (raw 0 (pos 4)) (raw 1 (pos 6))
   pub signature-30 : refileOf (pos 5 ∷ []) (changed 4 1 0x30 five) ≡ changed 4 1 0x30 five
+  pub unknown-bytes : refileOf (pos 4 ∷ []) (changed 40 4 0xABCDEF01 five) ≡ changed 40 4 0xABCDEF01 (refileOf (pos 4 ∷ []) five)
   pub around : refileOf (pos 5 ∷ []) (laid 1 16 1 (1 ∷ 2 ∷ []) (small 0 ∷ []) (3 ∷ [])) ≡ laid 1 16 1 (1 ∷ 2 ∷ []) (small 0 ∷ []) (3 ∷ [])
   -- mid/side by the first block's flag; parity
   pub pair-back : decodedOf (refileOf (pos 4 ∷ pos 6 ∷ []) (fileOf (pcm 2 16) MidSide (pos 3 ∷ pos 5 ∷ []))) ≡ pos 4 ∷ pos 6 ∷ []
@@ -134,6 +142,7 @@ pub record Reencodings : Type 0 where
   -- 50: the template's length
   pub room : reencodeOf (pcm 1 16) (pos 5 ∷ []) five 272 ≡ wrote 272
   pub room-short : reencodeOf (pcm 1 16) (pos 5 ∷ []) five 271 ≡ refused OutputTooShort
+  pub room-last : reencodeOf (pcm 1 16) (pos 3 ∷ []) five 0 ≡ refused WidthTooSmall
   pub kept : reencodeInto (pcm 1 16) (pos 3 ∷ []) five (replicate 272 7) ≡ replicate 272 7
   pub after : reencodeInto (pcm 1 16) (pos 5 ∷ []) five (replicate 273 7) ≡ five ++ (7 ∷ [])
 
@@ -157,6 +166,7 @@ reencodings =
       falling = refl;
       no-frames = refl;
       none = refl;
+      eleven-mid = refl;
       eleven = refl;
       twelve-plain = refl;
       twelve-mid = refl;
@@ -171,6 +181,7 @@ reencodings =
       values = refl;
       does-not-fit = refl;
       left-over = refl;
+      first-group = refl;
       four = refl;
       six = refl;
       seven = refl;
@@ -182,6 +193,7 @@ reencodings =
       raw-stays = refl;
       second-flag = refl;
       signature-30 = refl;
+      unknown-bytes = refl;
       around = refl;
       pair-back = refl;
       pair-odd = refl;
@@ -191,6 +203,7 @@ reencodings =
       lowest-moves = refl;
       room = refl;
       room-short = refl;
+      room-last = refl;
       kept = refl;
       after = refl;
     }

@@ -21,6 +21,10 @@ good = laid 1 16 513 [] (group 0 (pos 3) ∷ group 0 (pos 4) ∷ []) []
 abbrev damaged : List ℕ
 damaged = laid 1 16 513 [] (group 0 (pos 3) ∷ group 1 (pos 4) ∷ []) []
 
+-- one stereo frame
+abbrev stereo : List ℕ
+stereo = laid 2 16 1 [] ((group 0 (pos 3) ++ group 0 (pos 4)) ∷ []) []
+
 abbrev finished : Answer
 finished = record { outcome = Finished }
 
@@ -42,6 +46,10 @@ pub record Walks : Type 0 where
   pub refuses-into : stepInto damaged 1 (pos 9 ∷ []) ≡ pos 9 ∷ []
   pub room : stepOf good 0 511 ≡ refused OutputTooShort
   pub room-next : nextOf good 0 511 ≡ 0
+  -- samples are counted, not frames
+  pub both : stepOf stereo 0 2 ≡ read 2
+  pub both-into : stepInto stereo 0 (pos 9 ∷ pos 9 ∷ pos 9 ∷ []) ≡ pos 3 ∷ pos 4 ∷ pos 9 ∷ []
+  pub one-only : stepOf stereo 0 1 ≡ refused OutputTooShort
   -- bytes that don't open refuse as opening does, past the end too
   pub closed : stepOf (take 119 good) 0 512 ≡ refused TooShort
   pub closed-past : stepOf (take 119 good) 2 0 ≡ refused TooShort
@@ -65,6 +73,9 @@ walks =
       refuses-into = refl;
       room = refl;
       room-next = refl;
+      both = refl;
+      both-into = refl;
+      one-only = refl;
       closed = refl;
       closed-past = refl;
     }
