@@ -1,0 +1,194 @@
+//! The cases as antt text: for each a test, and the theorem that it comes out true.
+use crate::asking::{Answer, Question};
+use ncw::PcmSpec;
+use std::fs;
+use std::path::Path;
+
+/// A case's number, what was asked, and what the Rust answered.
+pub type Numbered<'a> = (usize, &'a Question, &'a Answer);
+
+const TESTS: &str = include_str!("Tests.antt.in");
+
+// ---- the tests
+
+/// The module `Tests`, for the definitions and the refusals that the crate has now.
+pub fn tests(format: &Path) -> String {
+    let modules = modules(&format.join("specs"));
+    let refusals = refusals(&read(&format.join("src/refusals.rt")));
+    TESTS
+        .replace("@USES@", &lines(&modules, |(name, defined)| uses(name, defined)))
+        .replace("@REFUSALS@", &refusals.iter().map(|(name, _)| name.clone()).collect::<Vec<_>>().join(", "))
+        .replace("@WORDS@", &lines(&refusals, |(name, held)| word_in(name, *held)))
+        .replace("@NAMES@", &modules.iter().map(|(_, defined)| defined.join(" ")).collect::<Vec<_>>().join(" "))
+        .replace("@TESTS@", &own_names())
+}
+
+fn read(path: &Path) -> String {
+    fs::read_to_string(path).unwrap_or_else(|error| panic!("{}: {error}", path.display()))
+}
+
+fn lines<T>(items: &[T], line: impl Fn(&T) -> String) -> String {
+    items.iter().map(line).collect::<Vec<_>>().join("\n")
+}
+
+/// Each file of definitions, with the names in it that can be unfolded.
+fn modules(specs: &Path) -> Vec<(String, Vec<String>)> {
+    let entries = fs::read_dir(specs).unwrap_or_else(|error| panic!("{}: {error}", specs.display()));
+    let mut names: Vec<String> = entries.map(|entry| entry.unwrap().file_name().into_string().unwrap()).collect();
+    names.sort();
+    let module = |file: &String| Some((file.strip_suffix(".antt")?.to_string(), unfoldable(&read(&specs.join(file)))));
+    names.iter().filter_map(module).filter(|(_, defined)| !defined.is_empty()).collect()
+}
+
+fn unfoldable(text: &str) -> Vec<String> {
+    let marked = text.lines().filter_map(|line| line.trim_start().strip_prefix("unfoldable pub "));
+    marked.filter_map(|rest| rest.split(' ').next()).map(str::to_string).collect()
+}
+
+/// What `Tests` itself defines, but for the last, which names all the others.
+fn own_names() -> String {
+    let names = unfoldable(TESTS);
+    names[..names.len() - 1].join(" ")
+}
+
+fn uses(module: &str, defined: &[String]) -> String {
+    format!("use Rattle.format.specs.{module}.{{{}}}", defined.join(", "))
+}
+
+/// The cases of the enum, and whether each holds the bits word.
+fn refusals(text: &str) -> Vec<(String, bool)> {
+    let (_, after) = text.split_once("pub enum Refusal {").expect("the enum Refusal");
+    let (body, _) = after.split_once('}').expect("its end");
+    let cases = body.split(',').map(str::trim).filter(|case| !case.is_empty());
+    cases.map(|case| (case.replace("(i16)", ""), case.ends_with("(i16)"))).collect()
+}
+
+fn word_in(name: &str, held: bool) -> String {
+    if held {
+        format!("wordIn ({name} b) = b")
+    } else {
+        format!("wordIn {name} = pos 0")
+    }
+}
+
+// ---- the cases
+
+const HEAD: &str = "\
+use mathlib.Core.Path.{_≡_, refl}
+use mathlib.Core.Bool.{Bool, true, false, _&&_}
+use mathlib.Core.List.{List, [], _∷_}
+use Prim.Native.Nat.{ℕ}
+use lib.IntN.{ℤ, pos, negsuc}
+use Rattle.format.specs.declared.settings.StereoMode.the-variants.{Auto, Direct, MidSide}
+use Rattle.asked.proofs.Tests.{octets, quads, spec, everything}
+use Rattle.asked.proofs.Tests.{opens, opensNot, decodes, decodesNot, encodes, encodesNot, reencodes, reencodesNot}
+use Rattle.asked.proofs.Tests.{host-opens, host-opensNot, host-decodes, host-decodesNot, host-encodes, host-encodesNot, host-reencodes, host-reencodesNot}
+";
+
+/// The boundary is asked in one case of so many, up to so many samples: its definitions go through bytes one by one.
+const ONE_AT_HOST: usize = 3;
+const MOST_AT_HOST: usize = 100;
+
+/// A module of cases, each a theorem: that its test comes out `true`, or, to look closer, `false`.
+pub fn module(cases: &[Numbered], outcome: bool) -> String {
+    let theorem = |(k, question, answer): &Numbered| {
+        let test = test(question, answer, k % ONE_AT_HOST == 0);
+        let proof = format!("pub case-{k} : test-{k} ≡ {outcome}\nunfolding everything\ncase-{k} = refl\n");
+        format!("\nabbrev test-{k} : Bool\ntest-{k} =\n{test}\n\n{proof}")
+    };
+    cases.iter().fold(String::from(HEAD), |text, case| text + &theorem(case))
+}
+
+fn test(question: &Question, answer: &Answer, host_too: bool) -> String {
+    let (name, call) = asked(question);
+    let (end, plain, host) = match answer {
+        Answer::Refused(number, word) => ("Not", format!("{number} {}", integer(*word)), number.to_string()),
+        _ => ("", "e".to_string(), "e".to_string()),
+    };
+    let at_host =
+        if host_too && few(question, answer) { format!(" && host-{name}{end} {host} {call}") } else { String::new() };
+    format!("{}{}    {name}{end} {plain} {call}{at_host}", inputs(question), expected(question, answer))
+}
+
+/// The test's name, and what it calls the definitions with.
+fn asked(question: &Question) -> (&'static str, String) {
+    match question {
+        Question::Open(_) => ("opens", "s".to_string()),
+        Question::Decode(_) => ("decodes", "s".to_string()),
+        Question::Encode(p, mode, _) => ("encodes", format!("{} {mode:?} s", spec(*p))),
+        Question::Reencode(p, ..) => ("reencodes", format!("{} s t", spec(*p))),
+    }
+}
+
+fn inputs(question: &Question) -> String {
+    match question {
+        Question::Open(file) | Question::Decode(file) => bound("s", "List ℕ", &octets(file)),
+        Question::Encode(_, _, samples) => bound("s", "List ℤ", &quads(samples)),
+        Question::Reencode(_, samples, template) => {
+            bound("s", "List ℤ", &quads(samples)) + &bound("t", "List ℕ", &octets(template))
+        }
+    }
+}
+
+/// What the Rust answered, where it did not refuse.
+fn expected(question: &Question, answer: &Answer) -> String {
+    match (question, answer) {
+        (_, Answer::Refused(..)) => String::new(),
+        (_, Answer::Opened(numbers)) => bound("e", "List ℕ", &list(numbers.iter().map(u64::to_string))),
+        (_, Answer::Bytes(bytes)) => bound("e", "List ℕ", &octets(bytes)),
+        (Question::Decode(file), Answer::Samples(samples)) => bound("e", "List (List ℤ)", &groups(file, samples)),
+        _ => panic!("an answer to another question"),
+    }
+}
+
+fn few(question: &Question, answer: &Answer) -> bool {
+    match (question, answer) {
+        (Question::Encode(_, _, samples) | Question::Reencode(_, samples, _), _) | (_, Answer::Samples(samples)) => {
+            samples.len() <= MOST_AT_HOST
+        }
+        _ => true,
+    }
+}
+
+// ---- the parts of a test
+
+fn bound(name: &str, kind: &str, value: &str) -> String {
+    format!("    let {name} : {kind} = {value} in\n")
+}
+
+fn integer(number: i16) -> String {
+    if number < 0 {
+        format!("(negsuc {})", !number)
+    } else {
+        format!("(pos {number})")
+    }
+}
+
+fn spec(spec: PcmSpec) -> String {
+    format!("(spec {} {} {})", spec.channels, spec.bits_per_sample, spec.sample_rate)
+}
+
+fn list(elements: impl Iterator<Item = String>) -> String {
+    elements.map(|element| element + " ∷ ").collect::<String>() + "[]"
+}
+
+/// Bytes as one number, the first byte lowest.
+fn octets(bytes: &[u8]) -> String {
+    format!("octets {} {}", bytes.len(), numeral(bytes))
+}
+
+fn quads(samples: &[i32]) -> String {
+    let bytes: Vec<u8> = samples.iter().flat_map(|sample| sample.to_le_bytes()).collect();
+    format!("quads {} {}", samples.len(), numeral(&bytes))
+}
+
+fn numeral(bytes: &[u8]) -> String {
+    let digits: String = bytes.iter().rev().map(|byte| format!("{byte:02X}")).collect();
+    format!("0x{}", if digits.is_empty() { "0" } else { &digits })
+}
+
+/// The samples of each group, 512 frames of the channels that bytes 8 and 9 give.
+fn groups(file: &[u8], samples: &[i32]) -> String {
+    let channels = usize::from(u16::from_le_bytes([file[8], file[9]]));
+    list(samples.chunks(512 * channels).map(quads))
+}
