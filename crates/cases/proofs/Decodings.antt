@@ -5,11 +5,11 @@ use mathlib.Core.List.{List, [], _∷_, _++_}
 use lib.ListN.{replicate}
 use lib.IntN.{ℤ, pos, negsuc}
 use Rattle.format.specs.Packed.{packing}
-use Rattle.format.specs.Decoding.{checkDecode, decodedOf, decodeOf, decodeInto}
+use Rattle.format.specs.Decoding.{checkDecode, decodeOf, decodeInto}
 use Rattle.format.specs.Encoding.{block}
 use Rattle.format.specs.declared.refusals.Checked.the-variants.{No}
 use Rattle.format.specs.declared.refusals.Refusal.the-variants.{BitsWord, BytesLeft, OutputTooShort}
-use Rattle.format.proofs.Made.{document-01, said, read, refused, laid, changed, five}
+use Rattle.format.proofs.Made.{document-01, decodesTo, said, read, refused, laid, changed, five}
 
 abbrev small : List ℕ
 small = block (pos 7) (pos 1) 0 (replicate 64 255)
@@ -50,28 +50,28 @@ pub record Decodings : Type 0 where
   -- 20 both ways; all four bytes of the mark; width 32 is read
   pub float-then-pcm : said (checkDecode (laid 1 16 513 [] (changed 10 2 2 small ∷ small ∷ []) [])) ≡ 20
   pub mark-4 : said (checkDecode (second (changed 3 1 0 small))) ≡ 3
-  pub bits-32 : decodedOf (laid 1 16 2 [] (block (pos 1) (pos 32) 0 (packing 32 (pos 2147483647 ∷ replicate 511 (pos 0))) ∷ []) []) ≡ pos 1 ∷ negsuc 2147483647 ∷ []
+  pub bits-32 : decodesTo (laid 1 16 2 [] (block (pos 1) (pos 32) 0 (packing 32 (pos 2147483647 ∷ replicate 511 (pos 0))) ∷ []) []) (pos 1 ∷ negsuc 2147483647 ∷ [])
   -- a first block with bits 33 opens, and decoding refuses 4; a group of 80 bytes: width 1 is read
   pub bits-33 : said (checkDecode (mono 16 (block (pos 0) (pos 33) 0 (replicate 64 0)))) ≡ 4
-  pub group-80 : decodedOf (mono 16 small) ≡ pos 7 ∷ []
+  pub group-80 : decodesTo (mono 16 small) (pos 7 ∷ [])
   -- 1 is against the group's end, not the file's
   pub group-end : said (checkDecode (laid 1 16 1 [] (block (pos 0) (pos 2) 0 (replicate 64 0) ∷ []) (replicate 64 0))) ≡ 1
   -- only the first channel's bit 0 decides; mid/side is for two channels; other bits are ignored
-  pub first-decides : decodedOf (stereo 32 (raw 0 (pos 9)) (raw 1 (pos 2))) ≡ pos 9 ∷ pos 2 ∷ []
-  pub first-mid : decodedOf (stereo 32 (raw 1 (pos 9)) (raw 0 (pos 2))) ≡ pos 11 ∷ pos 7 ∷ []
+  pub first-decides : decodesTo (stereo 32 (raw 0 (pos 9)) (raw 1 (pos 2))) (pos 9 ∷ pos 2 ∷ [])
+  pub first-mid : decodesTo (stereo 32 (raw 1 (pos 9)) (raw 0 (pos 2))) (pos 11 ∷ pos 7 ∷ [])
   pub later-bit : said (checkDecode (laid 3 16 1 [] ((small ++ (changed 10 2 1 small ++ small)) ∷ []) [])) ≡ 0
   pub three-mid : said (checkDecode (laid 3 16 1 [] ((changed 10 2 1 small ++ (small ++ small)) ∷ []) [])) ≡ 21
   pub other-bits : said (checkDecode (mono 16 (changed 10 2 0xFFFC small))) ≡ 0
   -- bits 0 is raw at the file's depth, whatever the base
-  pub depth-8 : decodedOf (mono 8 (atDepth 8)) ≡ negsuc 126 ∷ []
-  pub depth-16 : decodedOf (mono 16 (atDepth 16)) ≡ negsuc 32382 ∷ []
-  pub depth-24 : decodedOf (mono 24 (atDepth 24)) ≡ negsuc 8289918 ∷ []
-  pub depth-32 : decodedOf (mono 32 (atDepth 32)) ≡ negsuc 2122219134 ∷ []
+  pub depth-8 : decodesTo (mono 8 (atDepth 8)) (negsuc 126 ∷ [])
+  pub depth-16 : decodesTo (mono 16 (atDepth 16)) (negsuc 32382 ∷ [])
+  pub depth-24 : decodesTo (mono 24 (atDepth 24)) (negsuc 8289918 ∷ [])
+  pub depth-32 : decodesTo (mono 32 (atDepth 32)) (negsuc 2122219134 ∷ [])
   -- differences of −1 from the lowest number wrap; no sample is held to the depth
-  pub one-bit : decodedOf (laid 1 16 3 [] (block (negsuc 2147483647) (pos 1) 0 (replicate 64 255) ∷ []) []) ≡ negsuc 2147483647 ∷ pos 2147483647 ∷ pos 2147483646 ∷ []
-  pub any-number : decodedOf (mono 16 (raw 0 (pos 2147483647))) ≡ pos 2147483647 ∷ []
+  pub one-bit : decodesTo (laid 1 16 3 [] (block (negsuc 2147483647) (pos 1) 0 (replicate 64 255) ∷ []) []) (negsuc 2147483647 ∷ pos 2147483647 ∷ pos 2147483646 ∷ [])
+  pub any-number : decodesTo (mono 16 (raw 0 (pos 2147483647))) (pos 2147483647 ∷ [])
   -- mid and side both −2147483648, raw at 32: read as 0, 0
-  pub lowest-pair : decodedOf (stereo 16 (raw 1 (negsuc 2147483647)) (raw 0 (negsuc 2147483647))) ≡ pos 0 ∷ pos 0 ∷ []
+  pub lowest-pair : decodesTo (stereo 16 (raw 1 (negsuc 2147483647)) (raw 0 (negsuc 2147483647))) (pos 0 ∷ pos 0 ∷ [])
   -- 50 comes last; a refusal changes nothing, and what lies after the samples stays
   pub room-enough : decodeOf five 1 ≡ read 1
   pub room-short : decodeOf five 0 ≡ refused OutputTooShort

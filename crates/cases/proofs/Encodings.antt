@@ -5,16 +5,16 @@ use mathlib.Core.Bool.{true, false}
 use mathlib.Core.List.{List, [], _∷_, _++_}
 use lib.ListN.{drop, replicate}
 use lib.IntN.{ℤ, pos, negsuc}
-use Rattle.format.specs.Lists.{tab}
+use Rattle.format.specs.Lists.{tab, joined}
 use Rattle.format.specs.Numbers.{numAt}
 use Rattle.format.specs.Header.{fieldsOf}
 use Rattle.format.specs.Blocks.{baseOf, bitsOf, samplesOf}
-use Rattle.format.specs.Decoding.{checkDecode, decodedOf}
-use Rattle.format.specs.Encoding.{width, takesMid, groupOf, fileOf, checkEncode, encodeOf, encodeInto}
+use Rattle.format.specs.Decoding.{checkDecode}
+use Rattle.format.specs.Encoding.{width, takesMid, groupOf, groupAt, fileOf, checkEncode, encodeOf, encodeInto}
 use Rattle.format.specs.declared.refusals.Refusal.the-variants.{NotStereo, OutputTooShort}
 use Rattle.format.specs.declared.settings.PcmSpec.{PcmSpec}
 use Rattle.format.specs.declared.settings.StereoMode.the-variants.{Auto, Direct, MidSide}
-use Rattle.format.proofs.Made.{document-01, said, wrote, refused, pcm}
+use Rattle.format.proofs.Made.{document-01, decodesTo, said, wrote, refused, pcm}
 
 abbrev silent : PcmSpec
 silent = record { channels = 2; «bits_per_sample» = 16; «sample_rate» = 0 }
@@ -22,6 +22,10 @@ silent = record { channels = 2; «bits_per_sample» = 16; «sample_rate» = 0 }
 -- left and right swing together: mid/side is smaller
 abbrev together : List ℤ
 together = pos 100 ∷ pos 100 ∷ negsuc 99 ∷ negsuc 99 ∷ []
+
+-- 512 frames that swing together, then one that ties
+abbrev mixed : List ℤ
+mixed = joined (λ k. together) 256 ++ (pos 5 ∷ pos 5 ∷ [])
 
 -- 512 frames of equal parity, then one of different parity
 abbrev oddAtLast : List ℤ
@@ -65,17 +69,19 @@ pub record Encodings : Type 0 where
   pub pair-side : baseOf (drop 144 (groupOf (pcm 2 16) MidSide (pos 3 ∷ pos 5 ∷ []))) ≡ negsuc 0
   pub pair-flags : numAt 10 2 (groupOf (pcm 2 16) MidSide (pos 3 ∷ pos 5 ∷ [])) ≡ 1
   pub pair-flags-2 : numAt 154 2 (groupOf (pcm 2 16) MidSide (pos 3 ∷ pos 5 ∷ [])) ≡ 1
-  pub pair-back : decodedOf (fileOf (pcm 2 16) MidSide (pos 3 ∷ pos 5 ∷ [])) ≡ pos 3 ∷ pos 5 ∷ []
+  pub pair-back : decodesTo (fileOf (pcm 2 16) MidSide (pos 3 ∷ pos 5 ∷ [])) (pos 3 ∷ pos 5 ∷ [])
   -- Auto: mid/side where strictly smaller and representable; mono is direct
   pub auto-mid : takesMid Auto 2 16 together ≡ true
   pub auto-odd : takesMid Auto 2 16 (pos 101 ∷ pos 100 ∷ together) ≡ false
   pub auto-mono : takesMid Auto 1 16 together ≡ false
   pub auto-flags : numAt 10 2 (groupOf (pcm 2 16) Auto together) ≡ 1
+  pub auto-first : numAt 10 2 (groupAt (pcm 2 16) Auto mixed 0) ≡ 1
+  pub auto-second : numAt 10 2 (groupAt (pcm 2 16) Auto mixed 1) ≡ 0
   pub direct-flags : numAt 10 2 (groupOf (pcm 2 16) Direct together) ≡ 0
   -- two groups, there and back
   pub ramp-fine : said (checkDecode (fileOf (pcm 1 16) Auto (ramp 600))) ≡ 0
-  pub ramp-back : decodedOf (fileOf (pcm 1 16) Auto (ramp 600)) ≡ ramp 600
-  pub stereo-back : decodedOf (fileOf (pcm 2 16) Auto (ramp 1026)) ≡ ramp 1026
+  pub ramp-back : decodesTo (fileOf (pcm 1 16) Auto (ramp 600)) (ramp 600)
+  pub stereo-back : decodesTo (fileOf (pcm 2 16) Auto (ramp 1026)) (ramp 1026)
   -- 50 last: one byte short, and nothing changed
   pub room : encodeOf (pcm 1 16) Auto (pos 5 ∷ []) 272 ≡ wrote 272
   pub room-short : encodeOf (pcm 1 16) Auto (pos 5 ∷ []) 271 ≡ refused OutputTooShort
@@ -120,6 +126,8 @@ encodings =
       auto-odd = refl;
       auto-mono = refl;
       auto-flags = refl;
+      auto-first = refl;
+      auto-second = refl;
       direct-flags = refl;
       ramp-fine = refl;
       ramp-back = refl;

@@ -48,12 +48,13 @@ pub record Openings : Type 0 where
   pub none-17 : said (checkOpen (changed 120 4 9 noGroups)) ≡ 17
   -- 19: an entry past the data size, one before its start, one under 80 × channels after it
   pub entry-past : said (checkOpen (changed 124 4 161 twoGroups)) ≡ 19
-  pub entry-before : said (checkOpen (changed 28 4 70 (changed 124 4 80 (changed 128 4 70 twoGroups)))) ≡ 19
+  pub entry-before : said (checkOpen (changed 124 4 160 (changed 128 4 100 (laid 1 16 1025 [] (small ∷ small ∷ small ∷ []) [])))) ≡ 19
   pub entry-near : said (checkOpen (changed 124 4 81 twoGroups)) ≡ 19
   pub group-79 : said (checkOpen (laid 1 16 1 [] (take 79 small ∷ []) [])) ≡ 19
   pub group-80 : said (checkOpen (laid 1 16 1 [] (small ∷ []) [])) ≡ 0
   pub group-159 : said (checkOpen (laid 2 16 1 [] (take 159 (small ++ small) ∷ []) [])) ≡ 19
   -- the data's end is no number of 32 bits
+  pub far-frames : said (checkOpen (changed 16 4 0xFFFFFFFF five)) ≡ 15
   pub far-size : said (checkOpen (changed 28 4 0xFFFFFFFF five)) ≡ 1
   -- the other signature; bytes before the table and after the data; a bits word of 33 opens
   pub signature-30 : said (checkOpen (changed 4 1 0x30 five)) ≡ 0
@@ -83,6 +84,7 @@ openings =
       group-79 = refl;
       group-80 = refl;
       group-159 = refl;
+      far-frames = refl;
       far-size = refl;
       signature-30 = refl;
       signature-32 = refl;

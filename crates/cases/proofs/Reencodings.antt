@@ -5,13 +5,12 @@ use mathlib.Core.List.{List, [], _∷_, _++_}
 use lib.ListN.{take, replicate}
 use lib.IntN.{ℤ, pos, negsuc}
 use Rattle.format.specs.Packed.{packing}
-use Rattle.format.specs.Decoding.{decodedOf}
 use Rattle.format.specs.Encoding.{block, fileOf}
 use Rattle.format.specs.Reencoding.{checkReencode, refileOf, reencodeOf, reencodeInto}
 use Rattle.format.specs.declared.refusals.Checked.the-variants.{No}
 use Rattle.format.specs.declared.refusals.Refusal.the-variants.{BitsWord, WidthTooSmall, OutputTooShort}
 use Rattle.format.specs.declared.settings.StereoMode.the-variants.{MidSide}
-use Rattle.format.proofs.Made.{document-01, said, saidAfter, wrote, refused, pcm, laid, changed, five}
+use Rattle.format.proofs.Made.{document-01, decodesTo, reencodesTo, said, saidAfter, wrote, refused, pcm, laid, changed, five}
 
 -- the number that re-encoding says for mono samples, for a stereo frame
 abbrev mono : List ℤ → List ℕ → ℕ
@@ -84,6 +83,7 @@ pub record Reencodings : Type 0 where
   pub channels : said (checkReencode (pcm 2 16) (pos 5 ∷ pos 5 ∷ []) five) ≡ 40
   pub depth : said (checkReencode (pcm 1 24) (pos 5 ∷ []) five) ≡ 40
   pub frames : mono (pos 5 ∷ pos 5 ∷ []) five ≡ 40
+  pub rate-0 : mono (pos 5 ∷ []) (changed 12 4 0 five) ≡ 40
   pub depth-8 : mono (pos 5 ∷ []) (changed 10 2 8 five) ≡ 40
   -- 41: table offset, data offset, their distance
   pub table-119 : mono (pos 5 ∷ []) (changed 20 4 119 five) ≡ 41
@@ -112,33 +112,34 @@ pub record Reencodings : Type 0 where
   pub values : mono (pos 9 ∷ []) (one (block (pos 5) (pos 2) 0 (replicate 127 0))) ≡ 1
   pub does-not-fit : mono (pos 9 ∷ []) (one (small 0 ++ (0 ∷ []))) ≡ 36
   pub left-over : mono (pos 5 ∷ []) (one (small 0 ++ (0 ∷ []))) ≡ 46
-  -- groups in order
+  -- in a group the channels in order, each with its 36; then the next group
+  pub first-channel : stereo (pos 9) (pos 5) (both (small 0) (changed 0 1 0 (small 0))) ≡ 36
   pub first-group : mono zeros (laid 1 16 513 [] ((bit ++ (0 ∷ [])) ∷ changed 0 1 0 bit ∷ []) []) ≡ 46
   -- the difference from the last active to the first padded sample is determined by the samples
   pub four : mono (pos 4 ∷ []) five ≡ 0
   pub six : mono (pos 6 ∷ []) five ≡ 0
   pub seven : mono (pos 7 ∷ []) five ≡ 0
   pub three : mono (pos 3 ∷ []) five ≡ 36
-  pub four-back : decodedOf (refileOf (pos 4 ∷ []) five) ≡ pos 4 ∷ []
+  pub four-back : decodesTo (refileOf (pos 4 ∷ []) five) (pos 4 ∷ [])
   -- bits −1 is accepted: raw at width 1
   pub minus-1 : mono zeros twoGroups ≡ 0
   -- what stays: the padding word, the padded samples, the last difference; the base of a raw block
-  pub stays : refileOf (pos 4 ∷ []) (one worn) ≡ one wornAfter
-  pub last-stays : refileOf (replicate 512 (pos 4)) (full (pos 5)) ≡ full (pos 4)
-  pub raw-stays : refileOf (pos 9 ∷ []) (one (raw 0 (pos 1))) ≡ one (raw 0 (pos 9))
+  pub stays : reencodesTo 1 (pos 4 ∷ []) (one worn) (one wornAfter)
+  pub last-stays : reencodesTo 1 (replicate 512 (pos 4)) (full (pos 5)) (full (pos 4))
+  pub raw-stays : reencodesTo 1 (pos 9 ∷ []) (one (raw 0 (pos 1))) (one (raw 0 (pos 9)))
   -- the second block's flag stays and decides nothing; the other signature stays; bytes around stay
-  pub second-flag : refileOf (pos 4 ∷ pos 6 ∷ []) (both (raw 0 (pos 1)) (raw 1 (pos 2))) ≡ both (raw 0 (pos 4)) (raw 1 (pos 6))
-  pub signature-30 : refileOf (pos 5 ∷ []) (changed 4 1 0x30 five) ≡ changed 4 1 0x30 five
-  pub unknown-bytes : refileOf (pos 4 ∷ []) (changed 40 4 0xABCDEF01 five) ≡ changed 40 4 0xABCDEF01 (refileOf (pos 4 ∷ []) five)
-  pub around : refileOf (pos 5 ∷ []) (laid 1 16 1 (1 ∷ 2 ∷ []) (small 0 ∷ []) (3 ∷ [])) ≡ laid 1 16 1 (1 ∷ 2 ∷ []) (small 0 ∷ []) (3 ∷ [])
+  pub second-flag : reencodesTo 2 (pos 4 ∷ pos 6 ∷ []) (both (raw 0 (pos 1)) (raw 1 (pos 2))) (both (raw 0 (pos 4)) (raw 1 (pos 6)))
+  pub signature-30 : reencodesTo 1 (pos 5 ∷ []) (changed 4 1 0x30 five) (changed 4 1 0x30 five)
+  pub unknown-bytes : reencodesTo 1 (pos 4 ∷ []) (changed 40 4 0xABCDEF01 five) (changed 40 4 0xABCDEF01 (refileOf (pos 4 ∷ []) five))
+  pub around : reencodesTo 1 (pos 5 ∷ []) (laid 1 16 1 (1 ∷ 2 ∷ []) (small 0 ∷ []) (3 ∷ [])) (laid 1 16 1 (1 ∷ 2 ∷ []) (small 0 ∷ []) (3 ∷ []))
   -- mid/side by the first block's flag; parity
-  pub pair-back : decodedOf (refileOf (pos 4 ∷ pos 6 ∷ []) (fileOf (pcm 2 16) MidSide (pos 3 ∷ pos 5 ∷ []))) ≡ pos 4 ∷ pos 6 ∷ []
+  pub pair-back : decodesTo (refileOf (pos 4 ∷ pos 6 ∷ []) (fileOf (pcm 2 16) MidSide (pos 3 ∷ pos 5 ∷ []))) (pos 4 ∷ pos 6 ∷ [])
   pub pair-odd : stereo (pos 4) (pos 5) (fileOf (pcm 2 16) MidSide (pos 3 ∷ pos 5 ∷ [])) ≡ 35
   -- a template with its own samples is itself, but for a mid/side pair that left 32 bits
-  pub same-again : refileOf (pos 5 ∷ []) five ≡ five
+  pub same-again : reencodesTo 1 (pos 5 ∷ []) five (five)
   pub lowest-accepted : stereo (pos 0) (pos 0) lowest ≡ 0
-  pub lowest-reads : decodedOf lowest ≡ pos 0 ∷ pos 0 ∷ []
-  pub lowest-moves : refileOf (pos 0 ∷ pos 0 ∷ []) lowest ≡ both (raw 1 (pos 0)) (raw 0 (pos 0))
+  pub lowest-reads : decodesTo lowest (pos 0 ∷ pos 0 ∷ [])
+  pub lowest-moves : reencodesTo 2 (pos 0 ∷ pos 0 ∷ []) lowest (both (raw 1 (pos 0)) (raw 0 (pos 0)))
   -- 50: the template's length
   pub room : reencodeOf (pcm 1 16) (pos 5 ∷ []) five 272 ≡ wrote 272
   pub room-short : reencodeOf (pcm 1 16) (pos 5 ∷ []) five 271 ≡ refused OutputTooShort
@@ -157,6 +158,7 @@ reencodings =
       channels = refl;
       depth = refl;
       frames = refl;
+      rate-0 = refl;
       depth-8 = refl;
       table-119 = refl;
       data-before = refl;
@@ -181,6 +183,7 @@ reencodings =
       values = refl;
       does-not-fit = refl;
       left-over = refl;
+      first-channel = refl;
       first-group = refl;
       four = refl;
       six = refl;

@@ -1,5 +1,6 @@
 -- What the tables of cases are made of.
 use Prim.Native.Nat.{ℕ, _+_, _*_}
+use mathlib.Core.Path.{_≡_}
 use mathlib.Core.List.{List, [], _∷_, _++_}
 use lib.ListN.{length, getD, take, drop, replicate}
 use lib.IntN.{ℤ, pos}
@@ -73,3 +74,11 @@ five = fileOf (pcm 1 16) Auto (pos 5 ∷ [])
 abbrev pub saidAfter : (List ℕ → Checked) → List (List ℕ → List ℕ) → List ℕ → List ℕ
 saidAfter check [] s = said (check s) ∷ []
 saidAfter check (fault ∷ faults) s = said (check s) ∷ saidAfter check faults (fault s)
+
+-- the file decodes to these samples, into just enough room
+abbrev pub decodesTo : List ℕ → List ℤ → Type 0
+decodesTo s samples = decodeInto s (replicate (length samples) (pos 77777)) ≡ samples
+
+-- at 16 bits, the samples with the template t give this file, into just enough room
+abbrev pub reencodesTo : ℕ → List ℤ → List ℕ → List ℕ → Type 0
+reencodesTo channels samples t file = reencodeInto (pcm channels 16) samples t (replicate (length file) 77) ≡ file
