@@ -7,7 +7,9 @@ use lib.IntN.{ℤ}
 use lib.Dec.{eqb}
 use Rattle.format.specs.Lists.{same}
 use Rattle.format.specs.Numbers.{numAt, value}
-use Rattle.format.specs.Packed.{Coding, Differences, Raw, Beyond, coding, widthOf, values, rebuilt}
+use Rattle.format.specs.Packed.{coding, widthOf, values, rebuilt}
+use Rattle.format.specs.declared.packed.Coding.{Coding}
+use Rattle.format.specs.declared.packed.Coding.the-variants.{Differences, Raw, Beyond}
 
 -- 16 0C 9A 3E, base (4, signed), bits (2, signed), flags (2), padding (4), then packed values
 unfoldable pub blockMark : List ℕ

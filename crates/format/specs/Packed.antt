@@ -5,6 +5,8 @@ use mathlib.Core.Bool.{Bool, true, false, cond}
 use lib.IntN.{ℤ, pos, negsuc}
 use lib.Dec.{leb}
 use Rattle.format.specs.Numbers.{num, digits, value, codeOf, plus}
+use Rattle.format.specs.declared.packed.Coding.{Coding}
+use Rattle.format.specs.declared.packed.Coding.the-variants.{Differences, Raw, Beyond}
 
 -- 512 values at width b take 64 × b bytes, least significant bit first: the same number, to the base 256 and to the base 2 ^ b
 unfoldable pub codes : ℕ → List ℕ → List ℕ
@@ -18,11 +20,6 @@ values b s = map (value b) (codes b s)
 
 unfoldable pub packing : ℕ → List ℤ → List ℕ
 packing b vs = bytes b (map (codeOf b) vs)
-
--- what the bits word says: differences or raw values, at a width, or nothing that is read
-pub data Coding : Type 0 where
-  Differences Raw : ℕ → Coding
-  Beyond : Coding
 
 -- 1 to 32 differences at that width; −32 to −1 raw at the absolute width; 0 raw at the file's depth; any other refused
 unfoldable pub coding : ℕ → ℤ → Coding

@@ -8,7 +8,9 @@ use lib.Dec.{ltb, leb, eqb}
 use Rattle.format.specs.Lists.{from, joined, every, anyBelow}
 use Rattle.format.specs.Numbers.{le, codeOf, holds}
 use Rattle.format.specs.Header.{isSignature, fieldsOf, groupsOf, entry, group}
-use Rattle.format.specs.Packed.{Coding, Differences, Raw, Beyond, widthOf, isBeyond, values, packing}
+use Rattle.format.specs.Packed.{widthOf, isBeyond, values, packing}
+use Rattle.format.specs.declared.packed.Coding.{Coding}
+use Rattle.format.specs.declared.packed.Coding.the-variants.{Differences, Raw, Beyond}
 use Rattle.format.specs.Blocks.{isBlock, bitsWord, bitsOf, flagsOf, midBit, codingOf, sizeOf, samplesOf, rest}
 use Rattle.format.specs.Refusals.{refuse, _then_, inOrder}
 use Rattle.format.specs.Answers.{answered, filled}

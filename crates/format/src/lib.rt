@@ -1,6 +1,7 @@
 // The types that promises speak of. Document 01 itself is in specs/, a file for each of its sections.
 
 mod answers;
+mod packed;
 mod refusals;
 mod settings;
 mod units;
@@ -9,6 +10,7 @@ pub use answers::Answer;
 pub use answers::Fields;
 pub use answers::Header;
 pub use answers::Outcome;
+pub use packed::Coding;
 pub use refusals::Checked;
 pub use refusals::Refusal;
 pub use settings::PcmSpec;

@@ -1,25 +1,25 @@
 -- How much reading writes.
 use Prim.Native.Nat.{ℕ, zero, suc, _+_, _-_, _*_, _/_, _≤_, _<_, min}
-use mathlib.Core.Path.{_≡_, refl, sym, ap, ap₂, _∙_, subst}
-use mathlib.Core.Bool.{Bool, true, false, cond, not, _&&_}
+use mathlib.Core.Path.{_≡_, refl, sym, ap, ap₂, _∙_}
+use mathlib.Core.Bool.{Bool, true, false, cond}
 use mathlib.Core.List.{List, map}
 use native.Mathlib.Omega.{arith}
 use native.Mathlib.Nat.{mul-suc, mul-zero, mul-add}
 use lib.ListN.{length, getD, length-append, length-map}
 use lib.IntN.{ℤ, pos}
-use lib.Dec.{eqb}
-use borrow.Author.Tests.{eqb-true, eqb-false, not-false}
 use Rattle.format.specs.Lists.{tab, joined}
 use Rattle.format.specs.Header.{fieldsOf, groupsOf, group}
 use Rattle.format.specs.Blocks.{midBit, samplesOf, rest}
 use Rattle.format.specs.MidSide.{leftRight}
-use Rattle.format.specs.Opening.{formatOf, checkOpen, checkFields}
-use Rattle.format.specs.Decoding.{checkBlock, checkGroup, coded, channelsOf, woven, active, groupSamples, checkDecode, decodedOf}
+use Rattle.format.specs.Opening.{formatOf, checkOpen}
+use Rattle.format.specs.Decoding.{checkGroup, coded, channelsOf, woven, active, groupSamples, checkDecode, decodedOf}
 use Rattle.format.specs.declared.refusals.Checked.the-variants.{Fine}
 use Rattle.format.specs.declared.settings.SampleFormat.{SampleFormat}
 use Rattle.format.specs.declared.answers.Fields.{Fields}
 use Rattle.laws.proofs.Parts.{length-tab, length-even}
-use Rattle.laws.proofs.Checks.{first-fine, others-fine, passed, order-fine}
+use Rattle.laws.proofs.Checks.{first-fine, others-fine, order-fine}
+use Rattle.laws.proofs.Opened.{some-channels, opened-fields}
+use Rattle.laws.proofs.Passed.{mid-two}
 
 -- ---- a group
 length-two : (f : SampleFormat) (chans : List (List ℤ)) → length (leftRight f chans) ≡ 2
@@ -27,20 +27,13 @@ unfolding leftRight
 length-two f chans = refl
 
 module _ (h : Fields) (f : SampleFormat) (bs : List ℕ) (some : 1 ≤ h .channels) (fine : checkGroup h f bs ≡ Fine) where
-  mid-two : midBit bs ≡ true → h .channels ≡ 2
-  unfolding checkGroup checkBlock rest
-  mid-two m =
-      let first = order-fine (λ c. checkBlock h f c (rest (h .depth) bs c)) 0 (h .channels) some (first-fine _ _ fine) in
-      let e = passed _ _ (first-fine _ _ (others-fine _ _ (others-fine _ _ (others-fine _ _ first)))) in
-      eqb-true (h .channels) 2 (not-false _ (subst (λ (b : Bool). (b && not (eqb (h .channels) 2)) ≡ false) m e))
-
   channels-count : length (channelsOf h f bs) ≡ h .channels
   unfolding channelsOf coded
   channels-count = by (midBit bs) refl
     where
       by : (t : Bool) → midBit bs ≡ t
           → length (cond t (leftRight f (tab (h .channels) (λ c. samplesOf (h .depth) (rest (h .depth) bs c)))) (tab (h .channels) (λ c. samplesOf (h .depth) (rest (h .depth) bs c)))) ≡ h .channels
-      by true e = length-two f (tab (h .channels) (λ c. samplesOf (h .depth) (rest (h .depth) bs c))) ∙ sym (mid-two e)
+      by true e = length-two f (tab (h .channels) (λ c. samplesOf (h .depth) (rest (h .depth) bs c))) ∙ sym (mid-two h f bs fine some e)
       by false e = length-tab (h .channels) (λ c. samplesOf (h .depth) (rest (h .depth) bs c))
 
   pub group-writes : (g : ℕ) → length (groupSamples h f g bs) ≡ h .channels * active (h .frames) g
@@ -57,17 +50,11 @@ active-sum frames w P (suc n) h =
     ∙ sym (mul-add w (min frames (512 * n)) (min 512 (frames - 512 * n))) ∙ ap (λ (x : ℕ). w * x) e
 
 module _ (s : List ℕ) (fine : checkDecode s ≡ Fine) where
-  some-channels : 1 ≤ fieldsOf s .channels
-  unfolding checkDecode checkOpen checkFields
-  some-channels =
-      let e = eqb-false (fieldsOf s .channels) 0 (passed _ _ (first-fine _ _ (first-fine _ _ (others-fine _ _ (others-fine _ _ (first-fine _ _ fine)))))) in
-      omega arith
-
   pub decode-writes : length (decodedOf s) ≡ fieldsOf s .channels * fieldsOf s .frames
   unfolding decodedOf groupsOf checkDecode
   decode-writes =
       let h = fieldsOf s in
       let e : min (h .frames) (512 * ((h .frames + 511) / 512)) ≡ h .frames = omega arith in
       active-sum (h .frames) (h .channels) (λ g. groupSamples h (formatOf s h) g (group s h g)) ((h .frames + 511) / 512)
-      (λ g l. group-writes h (formatOf s h) (group s h g) some-channels (order-fine (λ g. checkGroup h (formatOf s h) (group s h g)) g ((h .frames + 511) / 512) l (others-fine (checkOpen s) _ fine)) g)
+      (λ g l. group-writes h (formatOf s h) (group s h g) (some-channels h (opened-fields s (first-fine _ _ fine))) (order-fine (λ g. checkGroup h (formatOf s h) (group s h g)) g ((h .frames + 511) / 512) l (others-fine (checkOpen s) _ fine)) g)
       ∙ ap (λ (x : ℕ). h .channels * x) e

@@ -8,11 +8,14 @@ pub mod Checks
 -- numbers: digits and packing over the width, codes and signs, wrapped sums and differences, halves of them
 pub mod Digits
 pub mod Signs
+pub mod Marks
 pub mod Wrap
 pub mod Up
 pub mod Halves
 pub mod SampleBytes
--- how much is read and written; what a function that reads cites
+-- a file that opens, a group that passes; how much is read and written; what a function that reads cites
+pub mod Opened
+pub mod Passed
 pub mod Lengths
 pub mod Written
 pub mod Reading

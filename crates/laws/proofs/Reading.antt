@@ -1,8 +1,9 @@
 -- What code reads and what a loop over checks says: the laws that functions cite.
-use Prim.Native.Nat.{ℕ, zero, suc, _+_, _-_, _*_, _≤_, _<_}
+use Prim.Native.Nat.{ℕ, zero, suc, _+_, _-_, _*_, _^_, _≤_, _<_}
 use mathlib.Core.Path.{_≡_, refl, sym, ap, _∙_}
 use mathlib.Core.Bool.{Bool, true, false, cond}
 use mathlib.Core.List.{List}
+use native.Mathlib.Nat.{mul-right-comm, pow-suc}
 use native.Mathlib.Omega.{arith}
 use native.Mathlib.Numerals.{add-one}
 use lib.ListN.{length, getD, drop}
@@ -12,7 +13,8 @@ use lib.Dec.{ltb}
 use borrow.Author.Tests.{le-leb, lt-leb}
 use Rattle.format.specs.Lists.{from}
 use Rattle.format.specs.Numbers.{num, numAt, value}
-use Rattle.format.specs.Packed.{Raw, Beyond, coding, widthOf}
+use Rattle.format.specs.Packed.{coding, widthOf}
+use Rattle.format.specs.declared.packed.Coding.the-variants.{Raw, Beyond}
 use Rattle.format.specs.Blocks.{sizeOf, rest}
 use Rattle.format.specs.Refusals.{_then_, inOrder}
 use Rattle.format.specs.declared.refusals.Refusal.{Refusal}
@@ -36,6 +38,34 @@ number-2 i s h =
     let b = number-more (i + 1) 0 s (omega arith) in
     let z = number-none (i + 1 + 1) s in
     omega arith
+
+pub number-4 : (i : ℕ) (s : List ℕ) → i + 4 ≤ length s
+    → numAt i 4 s ≡ getD s i 0 + 256 * getD s (i + 1) 0 + 65536 * getD s (i + 2) 0 + 16777216 * getD s (i + 3) 0
+number-4 i s h =
+    let a = number-more i 3 s (omega arith) in
+    let b = number-more (i + 1) 2 s (omega arith) in
+    let e2 : i + 1 + 1 ≡ i + 2 = omega arith in
+    let c = number-2 (i + 2) s (omega arith) in
+    let e3 : i + 2 + 1 ≡ i + 3 = omega arith in
+    omega (arith, a, rw e2 at b, rw e3 at c)
+
+-- a number of m + n bytes, from its parts
+pub numbers-meet : (m n i : ℕ) (s : List ℕ) → i + m ≤ length s → numAt i (m + n) s ≡ numAt i m s + 256 ^ m * numAt (i + m) n s
+numbers-meet zero n i s h =
+    let e : i + 0 ≡ i = omega arith in
+    let z : 0 + n ≡ n = omega arith in
+    rw (e, z, number-none i s) (omega arith)
+numbers-meet (suc m) n i s h =
+    let a = number-more i (m + n) s (omega arith) in
+    let b = number-more i m s (omega arith) in
+    let e : i + 1 + m ≡ i + suc m = omega arith in
+    let t : numAt (i + 1) (m + n) s ≡ numAt (i + 1) m s + 256 ^ m * numAt (i + suc m) n s = rw e at (numbers-meet m n (i + 1) s (omega arith)) in
+    let p : 256 ^ suc m * numAt (i + suc m) n s ≡ 256 ^ m * numAt (i + suc m) n s * 256 = ap (λ (x : ℕ). x * numAt (i + suc m) n s) (pow-suc 256 m) ∙ mul-right-comm (256 ^ m) 256 (numAt (i + suc m) n s) in
+    let q : suc m + n ≡ suc (m + n) = omega arith in
+    rw q (omega (arith, a, b, t, p))
+
+pub number-8 : (i : ℕ) (s : List ℕ) → i + 4 ≤ length s → numAt i 8 s ≡ numAt i 4 s + 4294967296 * numAt (i + 4) 4 s
+number-8 i s h = numbers-meet 4 4 i s h
 
 -- ---- the width that a bits word says
 module _ (depth w : ℕ) where

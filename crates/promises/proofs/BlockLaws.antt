@@ -13,7 +13,9 @@ use lib.Pow.{pow-mono}
 use borrow.Author.Tests.{ltb-true, le-leb}
 use Rattle.format.specs.Lists.{from, same, every}
 use Rattle.format.specs.Numbers.{num, digits, le, numAt, value, codeOf, holds}
-use Rattle.format.specs.Packed.{Coding, Differences, Raw, coding, widthOf, values, packing, rebuilt, isBeyond}
+use Rattle.format.specs.Packed.{coding, widthOf, values, packing, rebuilt, isBeyond}
+use Rattle.format.specs.declared.packed.Coding.{Coding}
+use Rattle.format.specs.declared.packed.Coding.the-variants.{Differences, Raw}
 use Rattle.format.specs.Blocks.{blockMark, isBlock, baseOf, bitsOf, codingOf, sizeOf, decoded, samplesOf}
 use Rattle.format.specs.Encoding.{differences, least, width, head0, block, blockOf}
 use Rattle.laws.proofs.Digits.{num-le}

@@ -7,7 +7,9 @@ use lib.IntN.{ℤ}
 use Rattle.format.specs.Lists.{joined, from}
 use Rattle.format.specs.Numbers.{num, Below, le, codeOf}
 use Rattle.format.specs.Header.{entry, group}
-use Rattle.format.specs.Packed.{Coding, Differences, Raw, Beyond, widthOf, bytes, packing}
+use Rattle.format.specs.Packed.{widthOf, bytes, packing}
+use Rattle.format.specs.declared.packed.Coding.{Coding}
+use Rattle.format.specs.declared.packed.Coding.the-variants.{Differences, Raw, Beyond}
 use Rattle.format.specs.Blocks.{codingOf, sizeOf, rest}
 use Rattle.format.specs.Encoding.{head0}
 use Rattle.format.specs.Reencoding.{valuesFor, baseFor, newBlock, activeIn, newGroup}

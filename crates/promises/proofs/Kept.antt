@@ -13,7 +13,9 @@ use mir.Val.{SFits}
 use borrow.Author.Tests.{le-ltb, ne-eqb}
 use Rattle.format.specs.Lists.{from, every}
 use Rattle.format.specs.Numbers.{num, Below, le, numAt, value, codeOf, holds}
-use Rattle.format.specs.Packed.{Coding, Differences, Raw, Beyond, widthOf, codes, values, packing, rebuilt, isBeyond}
+use Rattle.format.specs.Packed.{widthOf, codes, values, packing, rebuilt, isBeyond}
+use Rattle.format.specs.declared.packed.Coding.{Coding}
+use Rattle.format.specs.declared.packed.Coding.the-variants.{Differences, Raw, Beyond}
 use Rattle.format.specs.Blocks.{baseOf, bitsOf, codingOf, sizeOf, decoded, samplesOf}
 use Rattle.format.specs.Encoding.{differences, head0}
 use Rattle.format.specs.Reencoding.{newValues, valuesFor, baseFor, newBlock, checkNewBlock}

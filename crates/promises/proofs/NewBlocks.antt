@@ -14,7 +14,9 @@ use mir.Val.{SFits}
 use borrow.Author.Tests.{ltb-true, ltb-false, leb-true, eqb-false, not-false}
 use Rattle.format.specs.Lists.{from, same}
 use Rattle.format.specs.Numbers.{num, numAt, value, codeOf, plus}
-use Rattle.format.specs.Packed.{Coding, Differences, Raw, Beyond, coding, widthOf, codes, values, packing, rebuilt, isBeyond}
+use Rattle.format.specs.Packed.{coding, widthOf, codes, values, packing, rebuilt, isBeyond}
+use Rattle.format.specs.declared.packed.Coding.{Coding}
+use Rattle.format.specs.declared.packed.Coding.the-variants.{Differences, Raw, Beyond}
 use Rattle.format.specs.Blocks.{blockMark, isBlock, baseOf, bitsOf, codingOf, sizeOf, decoded, samplesOf}
 use Rattle.format.specs.Encoding.{differences, head0}
 use Rattle.format.specs.Reencoding.{newValues, valuesFor, baseFor, newBlock, checkNewBlock}

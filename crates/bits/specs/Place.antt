@@ -1,0 +1,61 @@
+-- A place in a packed run `s`.
+use Prim.Native.Nat.{ℕ, _+_, _-_, _*_, _/_, _%_, _^_, _≤_, _<_}
+use mathlib.Core.Path.{_≡_}
+use mathlib.Core.List.{List}
+use lib.ListN.{length}
+use Rattle.format.specs.Numbers.{num, value}
+use Rattle.bits.specs.declared.Cursor.{Cursor}
+use Rattle.bits.specs.declared.Taken.{Taken}
+use Rattle.bits.specs.declared.Next.{Next}
+
+-- the w bits of n from the bit p on
+abbrev pub bitsAt : ℕ → ℕ → ℕ → ℕ
+bitsAt n p w = n / 2 ^ p % 2 ^ w
+
+-- the bit that is read next
+abbrev pub place : Cursor → ℕ
+place c = c .at * 8 - c .have
+
+-- the cursor at the start of a run
+abbrev pub origin : Cursor
+origin = record { acc = 0; have = 0; at = 0 }
+
+-- the cursor holds the bits from its place to byte `at`
+pub record Held (s : List ℕ) (c : Cursor) : Type 0 where
+  pub within : c .have ≤ c .at * 8
+  pub held : c .acc ≡ bitsAt (num 256 s) (place c) (c .have)
+
+-- between two codes
+pub record Valid (s : List ℕ) (c : Cursor) : Type 0 where
+  pub holds : Held s c
+  pub small : c .have < 32
+  pub whole : c .at % 4 ≡ 0
+
+-- a code of width w at bit p lies in the run, which is whole words
+pub record Room (s : List ℕ) (p w : ℕ) : Type 0 where
+  pub low : 1 ≤ w
+  pub high : w ≤ 32
+  pub words : length s % 4 ≡ 0
+  pub fits : p + w ≤ length s * 8
+
+-- w bits split off what is held
+abbrev pub taken : Cursor → ℕ → Taken
+taken c w = record { code = c .acc % 2 ^ w; cursor = record { acc = c .acc / 2 ^ w; have = c .have - w; at = c .at } }
+
+-- the cursor after a word more
+pub record Filled (s : List ℕ) (c r : Cursor) : Type 0 where
+  pub holds : Held s r
+  pub more : r .have ≡ c .have + 32
+  pub on : r .at ≡ c .at + 4
+
+-- what is taken at bit p: the w bits there, and the cursor past them
+pub record Took (s : List ℕ) (p w : ℕ) (r : Taken) : Type 0 where
+  pub code : r .code ≡ bitsAt (num 256 s) p w
+  pub valid : Valid s (r .cursor)
+  pub moved : place (r .cursor) ≡ p + w
+
+-- and the value that they mean
+pub record Read (s : List ℕ) (p w : ℕ) (r : Next) : Type 0 where
+  pub means : r .value ≡ value w (bitsAt (num 256 s) p w)
+  pub valid : Valid s (r .cursor)
+  pub moved : place (r .cursor) ≡ p + w

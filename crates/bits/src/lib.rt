@@ -1,0 +1,124 @@
+// Packed values, least significant bit first: bits.rs of the Rust.
+use read_bytes::read_u32_le;
+ghost use mathlib.Core.Path.{_≡_};
+ghost use Prim.Native.Nat.{ℕ, _+_, _*_, _<_, _≤_, _^_};
+ghost use lib.ListN.{length};
+ghost use Rattle.format.specs.Numbers.{value};
+ghost use Rattle.format.specs.Packed.{values};
+ghost use Rattle.bits.specs.Place.{Held, Valid, Room, Took, Read, Filled, taken, place, origin};
+
+// A place in a packed run: the bits before byte `at` that are not read yet.
+pub struct Cursor {
+    pub acc: u64,
+    pub have: u32,
+    pub at: usize,
+}
+
+pub struct Taken {
+    pub code: u32,
+    pub cursor: Cursor,
+}
+
+pub struct Next {
+    pub value: i32,
+    pub cursor: Cursor,
+}
+
+fn pow2(k: u32) -> u64
+    requires { ⌜ k < 64 ⌝ }
+    ensures { λ r. ⌜ r ≡ 2 ^ k ⌝ }
+{
+    1 << k
+}
+
+// The number that a code of `bits` bits means.
+pub fn sign_extend(raw: u32, bits: u32) -> i32
+    requires { ⌜ (1 ≤ bits) × (bits ≤ 32) × (raw < 2 ^ bits) ⌝ }
+    ensures { λ r. ⌜ r ≡ value bits raw ⌝ }
+{
+    let n = ((raw >> (bits - 1)) as u64) << bits;
+    ((raw as i64) - (n as i64)) as i32
+}
+
+impl Cursor {
+    pub fn start() -> Self
+        ensures { λ r. ⌜ r ≡ origin ⌝ }
+    {
+        Self {
+            acc: 0,
+            have: 0,
+            at: 0,
+        }
+    }
+
+    // The lowest bits of what is held, and the rest.
+    fn taken(self, bits: u32) -> Taken
+        requires { ⌜ (bits ≤ 32) × (bits ≤ self .have) ⌝ }
+        ensures { λ r. ⌜ r ≡ taken self bits ⌝ }
+    {
+        Taken {
+            code: (self.acc % pow2(bits)) as u32,
+            cursor: Cursor {
+                acc: self.acc >> bits,
+                have: self.have - bits,
+                at: self.at,
+            },
+        }
+    }
+
+    // Four bytes more are held.
+    fn filled(self, run: &[u8]) -> Cursor
+        requires { ⌜ (Held (now run) self) × (self .have < 32) × (self .at + 4 ≤ length (now run)) ⌝ }
+        ensures { λ r. ⌜ Filled (now (run .entry)) self r ⌝ }
+    {
+        let at = self.at;
+        Cursor {
+            acc: self.acc + ((read_u32_le(run, at) as u64) << self.have),
+            have: self.have + 32,
+            at: at + 4,
+        }
+    }
+
+    fn code(self, run: &[u8], bits: u32) -> Taken
+        requires { ⌜ Valid (now run) self ⌝ }
+        requires { ⌜ Room (now run) (place self) bits ⌝ }
+        ensures { λ r. ⌜ Took (now (run .entry)) (place self) bits r ⌝ }
+    {
+        if self.have < bits {
+            return self.filled(run).taken(bits);
+        }
+        self.taken(bits)
+    }
+
+    // The value at the cursor's place, and the cursor after it.
+    pub fn next(self, run: &[u8], bits: u32) -> Next
+        requires { ⌜ Valid (now run) self ⌝ }
+        requires { ⌜ Room (now run) (place self) bits ⌝ }
+        ensures { λ r. ⌜ Read (now (run .entry)) (place self) bits r ⌝ }
+    {
+        let t = self.code(run, bits);
+        let cursor = t.cursor;
+        Next {
+            value: sign_extend(t.code, bits),
+            cursor: cursor,
+        }
+    }
+}
+
+// The 512 values of a packed run.
+pub fn packed_values(run: &[u8], bits: u32) -> [i32; 512]
+    requires { ⌜ (1 ≤ bits) × (bits ≤ 32) × (length (now run) ≡ 64 * bits) ⌝ }
+    ensures { λ r. ⌜ r ≡ values bits (now (run .entry)) ⌝ }
+{
+    let mut out = [0i32; 512];
+    let mut cursor = Cursor::start();
+    let mut k: usize = 0;
+    while k < 512 {
+        let n = cursor.next(run, bits);
+        let v = n.value;
+        out[k] = v;
+        cursor = n.cursor;
+        k += 1;
+    }
+    out
+}

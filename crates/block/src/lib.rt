@@ -1,0 +1,182 @@
+// One channel's block: its header, its checks, its samples, and mid/side: block.rs of the Rust.
+use format::Checked;
+use format::Coding;
+use format::Fields;
+use format::Refusal;
+use format::SampleFormat;
+use read_bytes::read_u16_le;
+use read_bytes::read_u32_le;
+ghost use mathlib.Core.Path.{_≡_};
+ghost use mathlib.Core.Bool.{cond, not, _&&_};
+ghost use Prim.Native.Nat.{ℕ, _+_, _*_, _/_, _%_, _<_, _≤_};
+ghost use lib.Dec.{eqb};
+ghost use lib.ListN.{length};
+ghost use Rattle.format.specs.Packed.{coding, widthOf, rebuilt};
+ghost use Rattle.format.specs.Blocks.{isBlock, midBit, sizeOf, samplesOf};
+ghost use Rattle.format.specs.MidSide.{leftRight};
+ghost use Rattle.format.specs.Decoding.{isFloat, checkBlock};
+ghost use Rattle.block.specs.Read.{blockHeader, Whole};
+
+pub struct BlockHeader {
+    pub base: i32,
+    pub bits: i16,
+    pub flags: u16,
+}
+
+// 16 0C 9A 3E.
+pub fn is_block(r: &[u8]) -> bool
+    requires { ⌜ 4 ≤ length (now r) ⌝ }
+    ensures { λ b. ⌜ b ≡ isBlock (now (r .entry)) ⌝ }
+{
+    read_u32_le(r, 0) == 0x3E9A_0C16
+}
+
+impl BlockHeader {
+    pub fn read(r: &[u8]) -> BlockHeader
+        requires { ⌜ 16 ≤ length (now r) ⌝ }
+        ensures { λ b. ⌜ b ≡ blockHeader (now (r .entry)) ⌝ }
+    {
+        BlockHeader {
+            base: bits::sign_extend(read_u32_le(r, 4), 32),
+            bits: bits::sign_extend(read_u16_le(r, 8) as u32, 16) as i16,
+            flags: read_u16_le(r, 10),
+        }
+    }
+
+    pub fn is_mid_side(self) -> bool
+        ensures { λ b. ⌜ b ≡ eqb (self .flags % 2) 1 ⌝ }
+    {
+        self.flags % 2 == 1
+    }
+
+    pub fn is_float(self) -> bool
+        ensures { λ b. ⌜ b ≡ eqb (self .flags / 2 % 2) 1 ⌝ }
+    {
+        self.flags / 2 % 2 == 1
+    }
+}
+
+// The bits word, by range.
+pub fn coding(depth: u16, bits: i16) -> Coding
+    ensures { λ r. ⌜ r ≡ coding depth bits ⌝ }
+{
+    match bits {
+        1..=32 => Coding::Differences(bits as u32),
+        -32..=-1 => Coding::Raw((-bits) as u32),
+        0 => Coding::Raw(depth as u32),
+        _ => Coding::Beyond,
+    }
+}
+
+pub fn width(coding: Coding) -> u32
+    ensures { λ r. ⌜ r ≡ widthOf coding ⌝ }
+{
+    match coding {
+        Coding::Differences(b) => b,
+        Coding::Raw(b) => b,
+        Coding::Beyond => 0,
+    }
+}
+
+// The length of the block that r begins with.
+pub fn size_of(r: &[u8], depth: u16) -> usize
+    requires { ⌜ (16 ≤ length (now r)) × (depth ≤ 32) ⌝ }
+    ensures { λ n. ⌜ (n ≡ sizeOf depth (now (r .entry))) × (n ≤ 2064) ⌝ }
+{
+    let b = BlockHeader::read(r);
+    16 + 64 * width(coding(depth, b.bits)) as usize
+}
+
+// Whether the block's format is not the file's.
+fn float_differs(format: SampleFormat, float: bool) -> bool
+    ensures { λ r. ⌜ r ≡ cond (isFloat format) (not float) float ⌝ }
+{
+    match format {
+        SampleFormat::Pcm => float,
+        SampleFormat::Float => !float,
+    }
+}
+
+// Whether a first block is of mid/side without two channels.
+fn mid_side_alone(c: u32, mid: bool, channels: u16) -> bool
+    ensures { λ r. ⌜ r ≡ (eqb c 0 && (mid && not (eqb channels 2))) ⌝ }
+{
+    if c != 0 {
+        return false;
+    }
+    if mid {
+        return channels != 2;
+    }
+    false
+}
+
+// Channel c's block, which r begins with.
+pub fn check_block(h: Fields, format: SampleFormat, c: u32, r: &[u8]) -> Checked
+    requires { ⌜ h .depth ≤ 32 ⌝ }
+    ensures { λ k. ⌜ k ≡ checkBlock h format c (now (r .entry)) ⌝ }
+{
+    if r.len() < 16 {
+        return Checked::No(Refusal::TooShort);
+    }
+    if is_block(r) {} else {
+        return Checked::No(Refusal::BlockSignature);
+    }
+    let b = BlockHeader::read(r);
+    if float_differs(format, b.is_float()) {
+        return Checked::No(Refusal::FloatDiffers);
+    }
+    if mid_side_alone(c, b.is_mid_side(), h.channels) {
+        return Checked::No(Refusal::MidSideChannels);
+    }
+    let coding = coding(h.depth, b.bits);
+    if let Coding::Beyond = coding {
+        return Checked::No(Refusal::BitsWord(b.bits));
+    }
+    if r.len() < size_of(r, h.depth) {
+        return Checked::No(Refusal::TooShort);
+    }
+    Checked::Fine
+}
+
+// Sample 0 is the base, sample k + 1 is sample k plus difference k.
+fn rebuild(base: i32, differences: [i32; 512]) -> [i32; 512]
+    ensures { λ r. ⌜ r ≡ rebuilt base differences ⌝ }
+{
+    let mut out = differences;
+    let mut x = base;
+    for k in 0..512usize {
+        let d = out[k];
+        out[k] = x;
+        x = sample::wrapping_add(x, d);
+    }
+    out
+}
+
+// The 512 samples of the block that r begins with.
+pub fn read_block(r: &[u8], depth: u16) -> [i32; 512]
+    requires { ⌜ Whole depth (now r) ⌝ }
+    ensures { λ xs. ⌜ xs ≡ samplesOf depth (now (r .entry)) ⌝ }
+{
+    let b = BlockHeader::read(r);
+    let end = size_of(r, depth);
+    let coding = coding(depth, b.bits);
+    match coding {
+        Coding::Differences(w) => rebuild(b.base, bits::packed_values(&r[16..end], w)),
+        Coding::Raw(w) => bits::packed_values(&r[16..end], w),
+        Coding::Beyond => [0i32; 512],
+    }
+}
+
+// Two channels of mid and side as left and right.
+pub fn decode_mid_side(format: SampleFormat, a: [[i32; 512]; 2]) -> [[i32; 512]; 2]
+    ensures { λ r. ⌜ r ≡ leftRight format a ⌝ }
+{
+    let mut d = a;
+    for i in 0..512usize {
+        let m = d[0][i];
+        let s = d[1][i];
+        d[0][i] = sample::left(format, m, s);
+        d[1][i] = sample::right(format, m, s);
+    }
+    d
+}

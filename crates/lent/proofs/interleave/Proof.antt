@@ -1,0 +1,157 @@
+-- `lent::interleave` meets its contract. The loop's invariant: k frames are put, and nothing else has changed. Assumes nothing.
+use mathlib.Core.Path.{_≡_, refl, ap, _∙_}
+use Prim.Native.Nat.{ℕ, _+_, _-_, _*_, _^_, _≤_, _<_}
+use native.Mathlib.Omega.{arith}
+use lib.ListN.{length, length-set}
+use borrow.Author.Needs.{needs}
+use Rattle.sample.proofs.Words.{given}
+use Rattle.lent.specs.Lent.{lentOf, restOf, placed, wovenFrom}
+use Rattle.lent.proofs.Laws.{count-lt}
+use Rattle.lent.proofs.Weave.{length-placed, length-woven}
+use Rattle.lent.proofs.Runs.{woven-none, woven-turn}
+use Rattle.lent.proofs.interleave.Statement.{statement}
+use Rattle.lent.proofs.interleave.Tie as tie
+
+abbrev Inv-loop : tie.InvT-loop
+Inv-loop which words₀ bytes₀ first skip n a k₀ words bytes k =
+    (k ≤ n)
+    × (length words ≡ length words₀)
+    × (length bytes ≡ length bytes₀)
+    × (lentOf which words bytes ≡ placed (first * 2) (wovenFrom skip k a) (lentOf which words₀ bytes₀))
+    × (restOf which words bytes ≡ restOf which words₀ bytes₀)
+
+abbrev μ-loop : tie.MeasureT-loop
+μ-loop which words₀ bytes₀ first skip n a k₀ words bytes k = n - k
+
+-- the samples' number fits, and every place that is written is within them
+fits : (a : tie.Start Inv-loop μ-loop) → length (lentOf (a .args .which) (a .args .words .now) (a .args .bytes .now)) < 2 ^ 64
+fits a = count-lt (a .args .which) _ _ (2 ^ 64) (omega arith) (omega arith)
+
+pair : (a : tie.Start Inv-loop μ-loop) → length (a .args .t7) ≡ 2
+pair a = search needs
+
+within : (c : tie.In-loop Inv-loop μ-loop) → (let x = c .before .before .before .args in (x .first + c .before .loop .k) * 2 + 2 ≤ length (lentOf (x .which) (x .words .now) (x .bytes .now)))
+within c = omega arith
+
+kept : (c : tie.In-loop Inv-loop μ-loop) → (let x = c .before .before .before .args in let s = (lentOf (x .which) (x .words .now) (x .bytes .now)) in length (placed (x .first * 2) (wovenFrom (x .skip) (c .before .loop .k) (x .t7)) s) ≡ length s)
+kept c =
+    let a = c .before .before .before in
+    let x = a .args in
+    let k = c .before .loop .k in
+    let l : length (wovenFrom (x .skip) k (x .t7)) ≡ 2 * k = length-woven (x .skip) k (x .t7) ∙ ap (λ (n : ℕ). n * k) (pair a) in
+    length-placed (x .first * 2) (wovenFrom (x .skip) k (x .t7)) (lentOf (x .which) (x .words .now) (x .bytes .now)) (omega (arith, within c))
+
+loop-holds : tie.Need-loop-holds Inv-loop μ-loop
+loop-holds c = let x = c .before .args in (omega arith, refl, refl, woven-none (lentOf (x .which) (x .words .now) (x .bytes .now)) (x .first * 2) (x .skip) (x .t7), refl)
+
+add-put-sample : tie.Need-add-put-sample Inv-loop μ-loop
+add-put-sample c = let i = c .before .before in omega (arith, fits (i .before .before .before), within i)
+
+mul-put-sample : tie.Need-mul-put-sample Inv-loop μ-loop
+mul-put-sample c = let i = c .before .before in omega (arith, fits (i .before .before .before), within i)
+
+add-put-sample-2 : tie.Need-add-put-sample-2 Inv-loop μ-loop
+add-put-sample-2 c = search needs
+
+mul-put-sample-2 : tie.Need-mul-put-sample-2 Inv-loop μ-loop
+mul-put-sample-2 c = search needs
+
+index-1-put-sample : tie.Need-index-1-put-sample Inv-loop μ-loop
+index-1-put-sample c = search needs
+
+index-2-put-sample : tie.Need-index-2-put-sample Inv-loop μ-loop
+index-2-put-sample c = search needs
+
+put-sample-requires : tie.Need-put-sample-requires Inv-loop μ-loop
+put-sample-requires c κs = let i = c .before .before .before in rw (i .before .loop .inv .3, kept i) (omega (arith, within i))
+
+add-put-sample-3 : tie.Need-add-put-sample-3 Inv-loop μ-loop
+add-put-sample-3 c = let i = c .before .before .before .before .before .before .before .before .before in omega (arith, fits (i .before .before .before), within i)
+
+mul-put-sample-3 : tie.Need-mul-put-sample-3 Inv-loop μ-loop
+mul-put-sample-3 c = let i = c .before .before .before .before .before .before .before .before .before in omega (arith, fits (i .before .before .before), within i)
+
+add-put-sample-4 : tie.Need-add-put-sample-4 Inv-loop μ-loop
+add-put-sample-4 c = let i = c .before .before .before .before .before .before .before .before .before in omega (arith, fits (i .before .before .before), within i)
+
+add-put-sample-5 : tie.Need-add-put-sample-5 Inv-loop μ-loop
+add-put-sample-5 c = search needs
+
+mul-put-sample-4 : tie.Need-mul-put-sample-4 Inv-loop μ-loop
+mul-put-sample-4 c = search needs
+
+index-1-put-sample-2 : tie.Need-index-1-put-sample-2 Inv-loop μ-loop
+index-1-put-sample-2 c = search needs
+
+index-2-put-sample-2 : tie.Need-index-2-put-sample-2 Inv-loop μ-loop
+index-2-put-sample-2 c = search needs
+
+put-sample-requires-2 : tie.Need-put-sample-requires-2 Inv-loop μ-loop
+put-sample-requires-2 c κs =
+    let g = c .before .before .before .before .before .before in
+    let i = g .before .before .before .before in
+    rw (g .put-sample .ensures .0, length-set, i .before .loop .inv .3, kept i) (omega (arith, within i))
+
+add-k : tie.Need-add-k Inv-loop μ-loop
+add-k c = search needs
+
+loop-less : tie.Need-loop-less Inv-loop μ-loop
+loop-less c = search needs
+
+loop-again : tie.Need-loop-again Inv-loop μ-loop
+loop-again c =
+    let h = c .before .before .before in
+    let g = h .before .before .before .before .before .before .before in
+    let l = g .before .before .before .before .before in
+    let a = l .before .before in
+    let x = a .args in
+    let i = l .loop .inv in (
+      omega arith,
+      h .put-sample2 .kept .1 .0 ∙ g .put-sample .kept .1 .0 ∙ i .1,
+      h .put-sample2 .kept .1 .1 .0 ∙ g .put-sample .kept .1 .1 .0 ∙ i .2,
+      h .put-sample2 .ensures .0
+          ∙ rw (g .put-sample .ensures .0, i .3)
+          (woven-turn (lentOf (x .which) (x .words .now) (x .bytes .now)) (x .t7) (x .first) (x .skip) (l .loop .k) (pair a) (within (g .before .before .before .before)) (given (g .before .put-sample-arg3 .given) refl) (given (h .before .put-sample-arg6 .given) refl)),
+      h .put-sample2 .ensures .1 ∙ g .put-sample .ensures .1 ∙ i .4,
+    )
+
+same-length : tie.Need-same-length Inv-loop μ-loop
+same-length c = search needs
+
+same-length-2 : tie.Need-same-length-2 Inv-loop μ-loop
+same-length-2 c = search needs
+
+returns : tie.Need-returns Inv-loop μ-loop
+returns c =
+    let i = c .before .loop .inv in
+    let k : c .before .loop .k ≡ c .before .before .before .args .n = omega arith in
+    (rw k at (i .3), i .4)
+
+pub interleave-spec : {M : Type 1} → statement M
+interleave-spec =
+    tie.close
+    (tie.spec
+    Inv-loop
+    μ-loop
+    loop-holds
+    add-put-sample
+    mul-put-sample
+    add-put-sample-2
+    mul-put-sample-2
+    index-1-put-sample
+    index-2-put-sample
+    put-sample-requires
+    add-put-sample-3
+    mul-put-sample-3
+    add-put-sample-4
+    add-put-sample-5
+    mul-put-sample-4
+    index-1-put-sample-2
+    index-2-put-sample-2
+    put-sample-requires-2
+    add-k
+    loop-less
+    loop-again
+    same-length
+    same-length-2
+    returns)

@@ -1,0 +1,41 @@
+-- Samples that are lent as numbers or as bytes, four to a sample.
+use Prim.Native.Nat.{ℕ, zero, suc, _+_, _*_, _/_}
+use mathlib.Core.List.{List, [], _∷_, _++_, map}
+use lib.ListN.{length, getD, take, drop, set}
+use lib.IntN.{ℤ, pos}
+use Rattle.format.specs.Lists.{joined, from}
+use Rattle.format.specs.Boundary.{samplesFrom}
+use Rattle.lent.specs.declared.Container.{Container}
+use Rattle.lent.specs.declared.Container.the-variants.{Words, Bytes}
+
+-- the samples that are lent, of the words w and the bytes b
+abbrev pub lentOf : Container → List ℤ → List ℕ → List ℤ
+lentOf Words w b = w
+lentOf Bytes w b = samplesFrom b
+
+-- what is lent besides
+pub record Rest : Type 0 where
+  pub words : List ℤ
+  pub bytes : List ℕ
+
+abbrev pub restOf : Container → List ℤ → List ℕ → Rest
+restOf Words w b = record { words = []; bytes = b }
+restOf Bytes w b = record { words = w; bytes = drop (length b / 4 * 4) b }
+
+-- xs put into s from i on
+unfoldable pub placed : ℕ → List ℤ → List ℤ → List ℤ
+placed i xs s = take i s ++ (xs ++ drop (i + length xs) s)
+
+-- xs put into s at p, p + step, ..
+unfoldable pub strided : List ℤ → ℕ → ℕ → List ℤ → List ℤ
+strided s p step [] = s
+strided s p step (x ∷ xs) = strided (set s p x) (p + step) step xs
+
+-- the n frames of the channels from the frame `skip` on, interleaved
+unfoldable pub wovenFrom : ℕ → ℕ → List (List ℤ) → List ℤ
+wovenFrom skip n chans = joined (λ i. map (λ (ch : List ℤ). getD ch (skip + i) (pos 0)) chans) n
+
+-- the channels 0, 1, .. one after another, each put where it lies in the n frames of C channels from `first` on
+unfoldable pub channelsPut : ℕ → ℕ → ℕ → ℕ → List (List ℤ) → ℕ → List ℤ → List ℤ
+channelsPut first skip n C chans zero s = s
+channelsPut first skip n C chans (suc c) s = strided (channelsPut first skip n C chans c s) (first * C + c) C (from skip n (getD chans c []))

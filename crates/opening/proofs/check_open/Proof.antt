@@ -1,0 +1,51 @@
+use borrow.Author.Needs.{needs}
+use Rattle.opening.proofs.Ways.{out-short, out-signature, out-fields, out-offsets, out-table, out-first, in-table, in-first}
+use Rattle.opening.proofs.check_open.Statement.{statement}
+use Rattle.opening.proofs.check_open.Tie as tie
+
+returns : tie.Need-returns
+returns c = search out-short
+
+returns-2 : tie.Need-returns-2
+returns-2 c = search out-signature
+
+returns-3 : tie.Need-returns-3
+returns-3 c = search out-fields
+
+returns-4 : tie.Need-returns-4
+returns-4 c = search out-offsets
+
+check-table-requires : tie.Need-check-table-requires
+check-table-requires c κs = search in-table
+
+returns-5 : tie.Need-returns-5
+returns-5 c = search out-table
+
+check-first-requires : tie.Need-check-first-requires
+check-first-requires c κs = search in-first
+
+returns-6 : tie.Need-returns-6
+returns-6 c = search out-first
+
+pub check-open-spec : {M : Type 1} → statement M
+check-open-spec =
+    tie.close
+    (tie.spec
+    returns
+    (λ c κs. search needs)
+    returns-2
+    (λ c κs. search needs)
+    (λ c κs. search needs)
+    (λ c. search needs)
+    returns-3
+    (λ c. search needs)
+    (λ c κs. search needs)
+    (λ c. search needs)
+    returns-4
+    (λ c. search needs)
+    check-table-requires
+    (λ c. search needs)
+    returns-5
+    (λ c. search needs)
+    check-first-requires
+    returns-6)

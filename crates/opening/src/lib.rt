@@ -1,0 +1,113 @@
+// Opening: NcwReader::read of the Rust.
+use block::BlockHeader;
+use format::Answer;
+use format::Checked;
+use format::Depth;
+use format::DepthWord;
+use format::Fields;
+use format::Frames;
+use format::Header;
+use format::Outcome;
+use format::Refusal;
+use format::SampleFormat;
+ghost use mathlib.Core.Path.{_≡_};
+ghost use Prim.Native.Nat.{ℕ, _+_, _≤_};
+ghost use lib.ListN.{length};
+ghost use Rattle.format.specs.Header.{fieldsOf, groupsOf};
+ghost use Rattle.format.specs.Units.{depthOf};
+ghost use Rattle.format.specs.Opening.{checkFirst, formatOf, checkOpen, headerOf, openOf};
+ghost use Rattle.format.specs.declared.refusals.Checked.the-variants.{Fine};
+
+fn check_first(s: &[u8], h: Fields) -> Checked
+    requires { ⌜ ((groupsOf (h .frames) ≡ 0 → ⊥) → h .start + 16 ≤ length (now s)) ⌝ }
+    ensures { λ r. ⌜ r ≡ checkFirst (now (s .entry)) h ⌝ }
+{
+    if header::groups_of(h.frames) == 0 {
+        return Checked::Fine;
+    }
+    let at = h.start as usize;
+    if block::is_block(&s[at..]) {} else {
+        return Checked::No(Refusal::BlockSignature);
+    }
+    Checked::Fine
+}
+
+// Every refusal of opening, in order.
+pub fn check_open(s: &[u8]) -> Checked
+    ensures { λ r. ⌜ r ≡ checkOpen (now (s .entry)) ⌝ }
+{
+    if s.len() < 120 {
+        return Checked::No(Refusal::TooShort);
+    }
+    if header::is_signature(s) {} else {
+        return Checked::No(Refusal::FileSignature);
+    }
+    let h = header::read_fields(s);
+    if let Checked::No(r) = header::check_fields(h) {
+        return Checked::No(r);
+    }
+    if let Checked::No(r) = header::check_offsets(h, s.len()) {
+        return Checked::No(r);
+    }
+    if let Checked::No(r) = header::check_table(s, h) {
+        return Checked::No(r);
+    }
+    check_first(s, h)
+}
+
+// The format that the first block's flags give.
+pub fn format_of(s: &[u8], h: Fields) -> SampleFormat
+    requires { ⌜ (checkOpen (now s) ≡ Fine) × (h ≡ fieldsOf (now s)) ⌝ }
+    ensures { λ r. ⌜ r ≡ formatOf (now (s .entry)) h ⌝ }
+{
+    if header::groups_of(h.frames) == 0 {
+        return SampleFormat::Pcm;
+    }
+    let at = h.start as usize;
+    let b = BlockHeader::read(&s[at..]);
+    if b.is_float() {
+        SampleFormat::Float
+    } else {
+        SampleFormat::Pcm
+    }
+}
+
+fn depth_of(bits: u16) -> Depth
+    ensures { λ r. ⌜ r ≡ depthOf bits ⌝ }
+{
+    match Depth::from_bits(bits) {
+        DepthWord::Known(d) => d,
+        DepthWord::Unknown => Depth::ThirtyTwo,
+    }
+}
+
+fn header_of(s: &[u8]) -> Header
+    requires { ⌜ checkOpen (now s) ≡ Fine ⌝ }
+    ensures { λ r. ⌜ r ≡ headerOf (now (s .entry)) ⌝ }
+{
+    let h = header::read_fields(s);
+    Header {
+        channels: h.channels,
+        depth: depth_of(h.depth),
+        rate: h.rate,
+        frames: Frames(h.frames),
+        table: h.table,
+        start: h.start,
+        size: h.size,
+        groups: header::groups_of(h.frames),
+        format: format_of(s, h),
+    }
+}
+
+pub fn open(file: &[u8]) -> Answer
+    ensures { λ r. ⌜ r ≡ openOf (now (file .entry)) ⌝ }
+{
+    if let Checked::No(r) = check_open(file) {
+        return Answer {
+            outcome: Outcome::Refused(r),
+        };
+    }
+    Answer {
+        outcome: Outcome::Opened(header_of(file)),
+    }
+}
