@@ -1,0 +1,54 @@
+-- `group::read_pair` meets its contract: both blocks are whole, and the first one's bit 0 decides. Assumes nothing.
+use borrow.Author.Needs.{needs}
+use Rattle.group.proofs.Channels.{first-whole, first-inside, second-whole, pair-mid, pair-plain}
+use Rattle.group.proofs.read_pair.Statement.{statement}
+use Rattle.group.proofs.read_pair.Tie as tie
+
+size-of-requires : tie.Need-size-of-requires
+size-of-requires c κs = let w = first-whole _ _ _ (c .before .pre .0) in (w .header, w .most)
+
+read-block-requires : tie.Need-read-block-requires
+read-block-requires c κs = first-whole _ _ _ (c .before .before .pre .0)
+
+sub-read-block : tie.Need-sub-read-block
+sub-read-block c = search (needs, first-inside)
+
+part-read-block-start : tie.Need-part-read-block-start
+part-read-block-start c = search (needs, first-inside)
+
+part-read-block-end : tie.Need-part-read-block-end
+part-read-block-end c = search needs
+
+read-block-requires-2 : tie.Need-read-block-requires-2
+read-block-requires-2 c κs = search (needs, second-whole)
+
+read-requires : tie.Need-read-requires
+read-requires c κs = first-whole _ _ _ (c .before .before .before .before .before .pre .0) .header
+
+is-mid-side-requires : tie.Need-is-mid-side-requires
+is-mid-side-requires c κs = search needs
+
+decode-mid-side-requires : tie.Need-decode-mid-side-requires
+decode-mid-side-requires c κs = search needs
+
+returns : tie.Need-returns
+returns c = search (needs, pair-mid)
+
+returns-2 : tie.Need-returns-2
+returns-2 c = search (needs, pair-plain)
+
+pub read-pair-spec : {M : Type 1} → statement M
+read-pair-spec =
+    tie.close
+    (tie.spec
+    size-of-requires
+    read-block-requires
+    sub-read-block
+    part-read-block-start
+    part-read-block-end
+    read-block-requires-2
+    read-requires
+    is-mid-side-requires
+    decode-mid-side-requires
+    returns
+    returns-2)
