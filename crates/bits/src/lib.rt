@@ -36,8 +36,9 @@ pub fn sign_extend(raw: u32, bits: u32) -> i32
     requires { ⌜ (1 ≤ bits) × (bits ≤ 32) × (raw < 2 ^ bits) ⌝ }
     ensures { λ r. ⌜ r ≡ value bits raw ⌝ }
 {
-    let n = ((raw >> (bits - 1)) as u64) << bits;
-    ((raw as i64) - (n as i64)) as i32
+    let half = pow2(bits - 1);
+    let up = (raw as u64 + half) % pow2(bits);
+    (up as i64 - half as i64) as i32
 }
 
 impl Cursor {

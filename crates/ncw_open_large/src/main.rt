@@ -1,0 +1,3 @@
+fn main() {
+    report::open_input();
+}

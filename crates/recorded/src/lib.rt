@@ -1,0 +1,47 @@
+// Opens and decodes each file of a recorded list, and prints a line for each.
+// The list has 4 bytes for a file's length, 4 for how many samples there is room for, and then the file.
+use libc::STDIN_FILENO;
+
+fn run_case(file: &[u8], room: &mut [i32]) {
+    report::print_opened(opening::open(file));
+    report::fill(room);
+    let answer = reader::decode_samples(file, room);
+    report::print_decoded(answer, room);
+}
+
+// A case of n bytes with room for m samples, in the space that is lent, and whether it was there.
+fn read_case(n: usize, m: usize, file: &mut [u8], room: &mut [i32]) -> bool {
+    if file.len() < n {
+        return false;
+    }
+    if room.len() < m {
+        return false;
+    }
+    if io::read_full(STDIN_FILENO, &mut file[..n]) != n {
+        return false;
+    }
+    run_case(&file[..n], &mut room[..m]);
+    true
+}
+
+fn next_case() -> bool {
+    let mut sizes = [0u8; 8];
+    if io::read_full(STDIN_FILENO, &mut sizes) != 8 {
+        return false;
+    }
+    let n = read_bytes::read_u32_le(&sizes, 0) as usize;
+    let m = read_bytes::read_u32_le(&sizes, 4) as usize;
+    let mut file = [0u8; 16384];
+    let mut room = [0i32; 4096];
+    read_case(n, m, &mut file, &mut room)
+}
+
+// Every case; then how many there were. Turns are counted, since nothing says that an input ends.
+pub fn run() {
+    let mut cases: u64 = 0;
+    while cases < 1000 && next_case() {
+        cases += 1;
+    }
+    report::print_number(cases);
+    report::print(b" cases\n");
+}

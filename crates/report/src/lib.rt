@@ -1,0 +1,12 @@
+// What the programs print.
+mod line;
+mod opened;
+mod room;
+mod text;
+
+pub use line::print_decoded;
+pub use line::print_opened;
+pub use opened::open_input;
+pub use room::fill;
+pub use text::print;
+pub use text::print_number;

@@ -1,0 +1,67 @@
+//! What the programs must print, from what the Rust answers.
+use crate::asking::{ask, Answer, Question};
+use crate::cases::Case;
+
+/// The most bytes that `ncw_open` opens.
+pub const MOST: usize = 65_536;
+
+/// The line of a case. That nothing but the samples changes is document 01's demand.
+pub fn of_case(case: &Case) -> String {
+    format!("{}, {}, kept\n", opened(&case.file), decoded(&case.file, case.room))
+}
+
+/// The number by which decoding refuses, in the line of a case.
+pub fn refusal_in(line: &str) -> Option<u32> {
+    let refused = line.split(", ").nth(1)?.strip_prefix("refused ")?;
+    refused.split(' ').next()?.parse().ok()
+}
+
+fn opened(file: &[u8]) -> String {
+    match ask(&Question::Open(file.to_vec())) {
+        Answer::Opened(numbers) => {
+            let (fields, format) = (numbers[..8].iter().map(u64::to_string), format_word(numbers[8]));
+            format!("opened {} {format}", fields.collect::<Vec<_>>().join(" "))
+        }
+        answer => refused(&answer),
+    }
+}
+
+/// 50 is document 01's: the Rust lends no room.
+fn decoded(file: &[u8], room: usize) -> String {
+    match ask(&Question::Decode(file.to_vec())) {
+        Answer::Samples(samples) if room < samples.len() => "refused 50".to_string(),
+        Answer::Samples(samples) => format!("read {} {}", samples.len(), checksum(&samples)),
+        answer => refused(&answer),
+    }
+}
+
+fn refused(answer: &Answer) -> String {
+    match answer {
+        Answer::Refused(4, word) => format!("refused 4 {word}"),
+        Answer::Refused(number, _) => format!("refused {number}"),
+        _ => panic!("an answer to another question"),
+    }
+}
+
+fn format_word(float: u64) -> &'static str {
+    ["pcm", "float"][float as usize]
+}
+
+/// The samples' 32 bits as digits to the base 1,000,003, modulo a prime.
+fn checksum(samples: &[i32]) -> u64 {
+    samples.iter().fold(0, |sum, sample| (sum * 1_000_003 + u64::from(*sample as u32)) % 4_294_967_291)
+}
+
+/// What `ncw_open` prints.
+pub fn of_input(input: &[u8]) -> String {
+    if MOST < input.len() {
+        return "too large\n".to_string();
+    }
+    match ask(&Question::Open(input.to_vec())) {
+        Answer::Opened([channels, bits, rate, frames, _, _, _, groups, float]) => format!(
+            "channels {channels}\nbits {bits}\nrate {rate}\nframes {frames}\ngroups {groups}\nformat {}\n",
+            format_word(float)
+        ),
+        answer => refused(&answer) + "\n",
+    }
+}

@@ -1,0 +1,120 @@
+//! Writes what the programs read and must print, or says whether it stands as it would be written.
+#[allow(dead_code)]
+#[path = "../definitions/asking.rs"]
+mod asking;
+mod blocks;
+mod cases;
+#[allow(dead_code)]
+#[path = "../definitions/faults.rs"]
+mod faults;
+#[allow(dead_code)]
+#[path = "../definitions/files.rs"]
+mod files;
+#[path = "../definitions/inputs.rs"]
+mod inputs;
+mod lines;
+#[path = "../definitions/orders.rs"]
+mod orders;
+#[path = "../definitions/random.rs"]
+mod random;
+#[path = "../definitions/samples.rs"]
+mod samples;
+
+use cases::Case;
+use std::collections::BTreeMap;
+use std::fs;
+use std::path::Path;
+
+/// A program's name, what it reads, and what it must print.
+type Recorded = (&'static str, Vec<u8>, String);
+
+fn main() {
+    let args: Vec<String> = std::env::args().skip(1).collect();
+    match args.iter().map(String::as_str).collect::<Vec<_>>()[..] {
+        ["write", crates] => write(&recorded(), Path::new(crates)),
+        ["check", crates] => check(&recorded(), Path::new(crates)),
+        ["list"] => list(),
+        _ => stop("usage: record write CRATES | record check CRATES | record list"),
+    }
+}
+
+fn stop(message: &str) -> ! {
+    eprintln!("{message}");
+    std::process::exit(2);
+}
+
+// ---- what is recorded
+
+fn recorded() -> Vec<Recorded> {
+    let short = cases::short_group(1, &mut random::Random::new(1));
+    let openings = [
+        opening("ncw_open", cases::one_sample()),
+        opening("ncw_open_refused", short),
+        opening("ncw_open_float", padded(cases::float_pairs(), lines::MOST)),
+        opening("ncw_open_large", padded(cases::float_pairs(), lines::MOST + 1)),
+    ];
+    let readings = cases::programs().map(|(program, cases)| reading(program, &cases));
+    openings.into_iter().chain(readings).collect()
+}
+
+/// For each case 4 bytes for its length, 4 for its room, and the file.
+fn reading(program: &'static str, cases: &[Case]) -> Recorded {
+    let sizes = |case: &Case| [case.file.len() as u32, case.room as u32].map(u32::to_le_bytes).concat();
+    let input = cases.iter().flat_map(|case| [sizes(case), case.file.clone()].concat()).collect();
+    let text: String = cases.iter().map(lines::of_case).collect();
+    (program, input, format!("{text}{} cases\n", cases.len()))
+}
+
+fn opening(program: &'static str, input: Vec<u8>) -> Recorded {
+    let text = lines::of_input(&input);
+    (program, input, text)
+}
+
+/// So many bytes, with zeros after the data.
+fn padded(mut file: files::File, length: usize) -> Vec<u8> {
+    file.tail = vec![0; length - file.bytes().len()];
+    file.bytes()
+}
+
+// ---- what is done with it
+
+fn write(programs: &[Recorded], crates: &Path) {
+    for (name, input, text) in programs {
+        for (file, bytes) in [("stdin", &input[..]), ("stdout", text.as_bytes())] {
+            let path = crates.join(name).join(file);
+            fs::write(&path, bytes).unwrap_or_else(|error| stop(&format!("{}: {error}", path.display())));
+        }
+        println!("{name}: {} bytes in, {} lines out", input.len(), text.lines().count());
+    }
+}
+
+fn check(programs: &[Recorded], crates: &Path) {
+    let stands = |name: &str, file: &str, bytes: &[u8]| {
+        let same = fs::read(crates.join(name).join(file)).is_ok_and(|old| old == bytes);
+        println!("{name}/{file}: {}", if same { "as recorded" } else { "DIFFERS" });
+        same
+    };
+    let differ = |(name, input, text): &&Recorded| {
+        let (input, text) = (stands(name, "stdin", input), stands(name, "stdout", text.as_bytes()));
+        !(input && text)
+    };
+    if programs.iter().filter(differ).count() > 0 {
+        std::process::exit(1);
+    }
+}
+
+/// Each program's cases, with number, length and line; then how often decoding refuses by each number.
+fn list() {
+    let mut refusals: BTreeMap<u32, usize> = BTreeMap::new();
+    let programs = cases::programs();
+    let cases = programs.iter().flat_map(|(program, cases)| cases.iter().enumerate().map(move |case| (program, case)));
+    for (program, (k, case)) in cases {
+        let line = lines::of_case(case);
+        print!("{program} {}: {}, length {}: {line}", k + 1, case.name, case.file.len());
+        if let Some(number) = lines::refusal_in(&line) {
+            *refusals.entry(number).or_insert(0) += 1;
+        }
+    }
+    let times: Vec<String> = refusals.iter().map(|(number, times)| format!("{number} x {times}")).collect();
+    println!("refused, number x times: {}", times.join(", "));
+}
