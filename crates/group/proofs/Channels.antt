@@ -1,5 +1,5 @@
--- The channels of a group that can be read: where each block lies, its 512 samples, and all of them put where they belong. Assumes nothing.
-use Prim.Native.Nat.{ℕ, suc, _+_, _-_, _*_, _%_, _<_, _≤_}
+-- The channels of a group that can be read, put where they belong.
+use Prim.Native.Nat.{ℕ, _+_, _*_, _%_, _<_, _≤_}
 use mathlib.Core.Path.{_≡_, refl, sym, ap, _∙_, subst}
 use mathlib.Core.Bool.{Bool, true, false}
 use mathlib.Core.List.{List, [], _∷_}
@@ -7,65 +7,25 @@ use native.Mathlib.Numerals.{add-one}
 use native.Mathlib.Omega.{arith}
 use lib.Dec.{eqb}
 use lib.IntN.{ℤ}
-use lib.ListN.{length, getD, take, drop, length-drop, length-map}
-use lib.Seq.{take-all}
+use lib.ListN.{length, getD}
 use Rattle.format.specs.Lists.{tab, from}
-use Rattle.format.specs.Numbers.{value, plus}
-use Rattle.format.specs.Packed.{codes, values, rebuilt, isBeyond}
-use Rattle.format.specs.Blocks.{midBit, baseOf, codingOf, sizeOf, decoded, samplesOf, rest}
+use Rattle.format.specs.Packed.{isBeyond}
+use Rattle.format.specs.Blocks.{midBit, codingOf, sizeOf, samplesOf, rest}
 use Rattle.format.specs.MidSide.{leftRight}
 use Rattle.format.specs.Decoding.{coded, channelsOf}
-use Rattle.format.specs.declared.packed.Coding.{Coding}
-use Rattle.format.specs.declared.packed.Coding.the-variants.{Differences, Raw, Beyond}
 use Rattle.format.specs.declared.settings.SampleFormat.{SampleFormat}
 use Rattle.format.specs.declared.answers.Fields.{Fields}
-use Rattle.laws.proofs.Tests.{never}
 use Rattle.laws.proofs.Parts.{length-tab, getD-tab}
-use Rattle.laws.proofs.Digits.{length-codes}
+use Rattle.laws.proofs.Lengths.{samples-512}
 use Rattle.laws.proofs.Passed.{header-there, bits-known, run-there, block-fine, mid-two}
-use Rattle.laws.proofs.Reading.{rest-none, rest-more}
 use Rattle.block.specs.Read.{blockHeader, Whole}
 use Rattle.block.specs.declared.BlockHeader.{BlockHeader}
 use Rattle.lent.specs.Lent.{placed, strided, wovenFrom, channelsPut}
 use Rattle.lent.proofs.Weave.{all-put}
 use Rattle.group.specs.Readable.{Readable}
+use Rattle.group.proofs.Places.{part, part-is, Begins, begins-first, begins-more}
 
--- ---- a block's samples are 512
-length-values : (b : ℕ) (s : List ℕ) → length (values b s) ≡ 512
-unfolding values
-length-values b s = length-map (codes b s) (value b) ∙ length-codes b s
-
-length-rebuilt : (base : ℤ) (ds : List ℤ) → length (rebuilt base ds) ≡ length ds
-unfolding rebuilt
-length-rebuilt base [] = refl
-length-rebuilt base (d ∷ ds) = ap suc (length-rebuilt (plus base d) ds)
-
-decoded-512 : (base : ℤ) (run : List ℕ) (k : Coding) → isBeyond k ≡ false → length (decoded k base run) ≡ 512
-unfolding decoded isBeyond
-decoded-512 base run (Raw b) e = length-values b (take (64 * b) run)
-decoded-512 base run (Differences b) e = length-rebuilt base (values b (take (64 * b) run)) ∙ length-values b (take (64 * b) run)
-decoded-512 base run Beyond e = never e
-
-samples-512 : (depth : ℕ) (r : List ℕ) → isBeyond (codingOf depth r) ≡ false → length (samplesOf depth r) ≡ 512
-unfolding samplesOf
-samples-512 depth r e = decoded-512 (baseOf r) (drop 16 r) (codingOf depth r) e
-
--- ---- what lies from a place on
-abbrev pub part : ℕ → List ℕ → List ℕ
-part at bs = take (length bs - at) (drop at bs)
-
-part-is : (at : ℕ) (bs : List ℕ) → part at bs ≡ drop at bs
-part-is at bs = take-all (length bs - at) (drop at bs) (omega (arith, length-drop at bs))
-
--- channel c's block begins at that place
-pub record Begins (depth : ℕ) (bs : List ℕ) (c at : ℕ) : Type 0 where
-  pub inside : at ≤ length bs
-  pub left : rest depth bs c ≡ drop at bs
-
-pub begins-first : (depth : ℕ) (bs : List ℕ) → Begins depth bs 0 0
-begins-first depth bs = record { inside = omega arith; left = rest-none depth bs }
-
--- no channel put, and one more
+-- ---- no channel put, and one more
 pub none-put : (first skip n C : ℕ) (chans : List (List ℤ)) (s : List ℤ) → s ≡ channelsPut first skip n C chans 0 s
 unfolding channelsPut
 none-put first skip n C chans s = refl
@@ -108,9 +68,7 @@ module _ (h : Fields) (f : SampleFormat) (bs : List ℕ) (ok : Readable h f bs) 
         subst (Whole (h .depth)) here (record { some = ok .least; most = ok .most; header = header-there h f c _ e; known = bits-known h f c _ e; run = run-there h f c _ e })
 
     pub begins-next : (n : ℕ) → n ≡ sizeOf (h .depth) (part at bs) → Begins (h .depth) bs (c + 1) (at + n)
-    begins-next n z =
-        let fits : at + n ≤ length bs = omega (arith, b .inside, whole .run, ap length (part-is at bs), length-drop at bs) in
-        record { inside = fits; left = rest-more (h .depth) bs c at n (b .left) (z ∙ ap (sizeOf (h .depth)) (part-is at bs)) }
+    begins-next n = begins-more (h .depth) bs c at n b (whole .run)
 
     samples-are : (xs : List ℤ) → xs ≡ samplesOf (h .depth) (part at bs) → xs ≡ getD chans c []
     samples-are xs e = e ∙ ap (samplesOf (h .depth)) (sym here) ∙ sym (channel-is c l)

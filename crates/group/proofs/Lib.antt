@@ -1,2 +1,3 @@
-pub mod Channels
+pub mod Places
 pub mod Checking
+pub mod Channels

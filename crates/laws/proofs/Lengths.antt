@@ -2,24 +2,50 @@
 use Prim.Native.Nat.{ℕ, zero, suc, _+_, _-_, _*_, _/_, _≤_, _<_, min}
 use mathlib.Core.Path.{_≡_, refl, sym, ap, ap₂, _∙_}
 use mathlib.Core.Bool.{Bool, true, false, cond}
-use mathlib.Core.List.{List, map}
+use mathlib.Core.List.{List, [], _∷_, map}
 use native.Mathlib.Omega.{arith}
 use native.Mathlib.Nat.{mul-suc, mul-zero, mul-add}
-use lib.ListN.{length, getD, length-append, length-map}
+use lib.ListN.{length, getD, take, drop, length-append, length-map}
 use lib.IntN.{ℤ, pos}
 use Rattle.format.specs.Lists.{tab, joined}
+use Rattle.format.specs.Numbers.{value, plus}
+use Rattle.format.specs.Packed.{codes, values, rebuilt, isBeyond}
 use Rattle.format.specs.Header.{fieldsOf, groupsOf, group}
-use Rattle.format.specs.Blocks.{midBit, samplesOf, rest}
+use Rattle.format.specs.Blocks.{midBit, baseOf, codingOf, decoded, samplesOf, rest}
 use Rattle.format.specs.MidSide.{leftRight}
 use Rattle.format.specs.Opening.{formatOf, checkOpen}
 use Rattle.format.specs.Decoding.{checkGroup, coded, channelsOf, woven, active, groupSamples, checkDecode, decodedOf}
+use Rattle.format.specs.declared.packed.Coding.{Coding}
+use Rattle.format.specs.declared.packed.Coding.the-variants.{Differences, Raw, Beyond}
 use Rattle.format.specs.declared.refusals.Checked.the-variants.{Fine}
 use Rattle.format.specs.declared.settings.SampleFormat.{SampleFormat}
 use Rattle.format.specs.declared.answers.Fields.{Fields}
+use Rattle.laws.proofs.Tests.{never}
 use Rattle.laws.proofs.Parts.{length-tab, length-even}
+use Rattle.laws.proofs.Digits.{length-codes}
 use Rattle.laws.proofs.Checks.{first-fine, others-fine, order-fine}
 use Rattle.laws.proofs.Opened.{some-channels, opened-fields}
 use Rattle.laws.proofs.Passed.{mid-two}
+
+-- ---- a block's samples are 512
+pub length-values : (b : ℕ) (s : List ℕ) → length (values b s) ≡ 512
+unfolding values
+length-values b s = length-map (codes b s) (value b) ∙ length-codes b s
+
+pub length-rebuilt : (base : ℤ) (ds : List ℤ) → length (rebuilt base ds) ≡ length ds
+unfolding rebuilt
+length-rebuilt base [] = refl
+length-rebuilt base (d ∷ ds) = ap suc (length-rebuilt (plus base d) ds)
+
+decoded-512 : (base : ℤ) (run : List ℕ) (k : Coding) → isBeyond k ≡ false → length (decoded k base run) ≡ 512
+unfolding decoded isBeyond
+decoded-512 base run (Raw b) e = length-values b (take (64 * b) run)
+decoded-512 base run (Differences b) e = length-rebuilt base (values b (take (64 * b) run)) ∙ length-values b (take (64 * b) run)
+decoded-512 base run Beyond e = never e
+
+pub samples-512 : (depth : ℕ) (r : List ℕ) → isBeyond (codingOf depth r) ≡ false → length (samplesOf depth r) ≡ 512
+unfolding samplesOf
+samples-512 depth r e = decoded-512 (baseOf r) (drop 16 r) (codingOf depth r) e
 
 -- ---- a group
 length-two : (f : SampleFormat) (chans : List (List ℤ)) → length (leftRight f chans) ≡ 2

@@ -1,4 +1,4 @@
--- Signed numbers and their 32 bits; sums and differences wrapped at 32 bits. Assumes nothing.
+-- Signed numbers and their 32 bits; sums and differences wrapped at 32 bits.
 use mathlib.Core.Path.{_≡_, refl, sym, ap, ap₂, _∙_}
 use mathlib.Core.Bool.{Bool, true, false, cond}
 use Prim.Native.Nat.{ℕ, zero, suc, _+_, _-_, _%_, _^_, _<_}

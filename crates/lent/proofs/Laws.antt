@@ -1,4 +1,4 @@
--- Lent samples: what each container holds, and what a store does. Assumes nothing.
+-- Lent samples: what each container holds, and what a store does.
 use mathlib.Core.Path.{_≡_, refl, sym, ap, _∙_}
 use mathlib.Core.List.{List, [], _∷_, append-assoc}
 use Prim.Native.Nat.{ℕ, suc, _+_, _-_, _*_, _/_, _%_, _^_, _<_, _≤_}

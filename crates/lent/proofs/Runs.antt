@@ -1,4 +1,4 @@
--- What a turn of each loop over lent samples adds; none of it knows a container. Assumes nothing.
+-- What a turn of each loop over lent samples adds; none of it knows a container.
 use mathlib.Core.Path.{_≡_, refl, ap, _∙_}
 use mathlib.Core.List.{List, [], _∷_, _++_, map, append-assoc}
 use Prim.Native.Nat.{ℕ, suc, _+_, _*_, _<_, _≤_}

@@ -1,5 +1,5 @@
 -- Samples put into a list one after another, at every step-th place, and frame by frame: channels that are put each at its places are the frames
--- put where they lie. Assumes nothing.
+-- put where they lie.
 use mathlib.Core.Path.{_≡_, refl, sym, ap, _∙_, subst}
 use mathlib.Core.List.{List, [], _∷_, _++_, map, append-assoc}
 use mathlib.Core.Logic.{_⊎_, inl, inr}

@@ -20,6 +20,7 @@ use Rattle.format.specs.Blocks.{baseOf, bitsOf, codingOf, sizeOf, decoded, samp
 use Rattle.format.specs.Encoding.{differences, head0}
 use Rattle.format.specs.Reencoding.{newValues, valuesFor, baseFor, newBlock, checkNewBlock}
 use Rattle.format.specs.declared.refusals.Checked.the-variants.{Fine}
+use Rattle.laws.proofs.Lengths.{length-values, length-rebuilt}
 use Rattle.laws.proofs.Tests.{never}
 use Rattle.laws.proofs.Parts.{length-from, meet}
 use Rattle.laws.proofs.Checks.{pass, _and-then_}
@@ -27,7 +28,7 @@ use Rattle.laws.proofs.Digits.{num-lt, le-num, codes-low}
 use Rattle.laws.proofs.Signs.{AllHold, code-value, value-pos, value-holds, packing-values, holds-every}
 use Rattle.laws.proofs.Wrap.{Fit, differences-rebuilt}
 use Rattle.promises.proofs.BlockLaws.{fit}
-use Rattle.promises.proofs.NewBlocks.{Template, length-values, value-fits, new-raw, new-differences, width-some, width-most, length-rebuilt, rebuilt-fit, word-same, new-reads}
+use Rattle.promises.proofs.NewBlocks.{Template, value-fits, new-raw, new-differences, width-some, width-most, rebuilt-fit, word-same, new-reads}
 use Rattle.promises.proofs.Bytes.{below-from}
 
 values-hold : (b : ℕ) (s : List ℕ) → 1 ≤ b → AllHold b (values b s)
@@ -121,23 +122,13 @@ module _ (depth : ℕ) (low : 1 ≤ depth) (high : depth ≤ 32) (r : List ℕ) 
       sum : 4 + (4 + (8 + 64 * b)) ≡ 16 + 64 * b
       sum = omega arith
 
--- ---- a template's samples: 512, of 32 bits
+-- ---- a template's samples are of 32 bits
 module _ (base : ℤ) (fb : SFits w32 base) (run : List ℕ) where
-  decoded-512 : (k : Coding) → isBeyond k ≡ false → length (decoded k base run) ≡ 512
-  unfolding decoded isBeyond
-  decoded-512 (Raw b) e = length-values b (take (64 * b) run)
-  decoded-512 (Differences b) e = length-rebuilt base (values b (take (64 * b) run)) ∙ length-values b (take (64 * b) run)
-  decoded-512 Beyond e = never e
-
   decoded-fit : (k : Coding) → isBeyond k ≡ false → 1 ≤ widthOf k → widthOf k ≤ 32 → Fit (decoded k base run)
   unfolding decoded isBeyond widthOf
   decoded-fit (Raw b) e l u = values-fit b (take (64 * b) run) l u
   decoded-fit (Differences b) e l u = rebuilt-fit base (values b (take (64 * b) run)) fb
   decoded-fit Beyond e l u = never e
-
-pub samples-512 : (depth : ℕ) (r : List ℕ) → isBeyond (codingOf depth r) ≡ false → length (samplesOf depth r) ≡ 512
-unfolding samplesOf baseOf
-samples-512 depth r e = decoded-512 (baseOf r) (value-fits (numAt 4 4 r)) (drop 16 r) (codingOf depth r) e
 
 pub samples-fit : (depth : ℕ) (r : List ℕ) → 1 ≤ depth → depth ≤ 32 → isBeyond (codingOf depth r) ≡ false → Fit (samplesOf depth r)
 unfolding samplesOf baseOf codingOf

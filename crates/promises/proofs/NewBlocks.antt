@@ -21,6 +21,7 @@ use Rattle.format.specs.Blocks.{blockMark, isBlock, baseOf, bitsOf, codingOf, s
 use Rattle.format.specs.Encoding.{differences, head0}
 use Rattle.format.specs.Reencoding.{newValues, valuesFor, baseFor, newBlock, checkNewBlock}
 use Rattle.format.specs.declared.refusals.Checked.the-variants.{Fine}
+use Rattle.laws.proofs.Lengths.{length-values, length-rebuilt}
 use Rattle.laws.proofs.Tests.{never}
 use Rattle.laws.proofs.Parts.{below-suc, from-skip, from-within, from-front, from-from, length-from}
 use Rattle.laws.proofs.Checks.{first-fine, others-fine, passed}
@@ -52,20 +53,11 @@ drop-rebuilt base [] a h = absurd (omega arith)
 drop-rebuilt base (d ∷ ds) zero h = refl
 drop-rebuilt base (d ∷ ds) (suc a) h = drop-rebuilt (plus base d) ds a (omega arith)
 
-pub length-rebuilt : (base : ℤ) (ds : List ℤ) → length (rebuilt base ds) ≡ length ds
-unfolding rebuilt
-length-rebuilt base [] = refl
-length-rebuilt base (d ∷ ds) = ap suc (length-rebuilt (plus base d) ds)
-
 pub rebuilt-fit : (base : ℤ) (ds : List ℤ) → SFits w32 base → Fit (rebuilt base ds)
 unfolding rebuilt
 rebuilt-fit base [] f i = record { sfits = omega arith }
 rebuilt-fit base (d ∷ ds) f zero = f
 rebuilt-fit base (d ∷ ds) f (suc i) = rebuilt-fit (plus base d) ds (wrap-is (base +ℤ d)) i
-
-pub length-values : (b : ℕ) (s : List ℕ) → length (values b s) ≡ 512
-unfolding values
-length-values b s = length-map (codes b s) (value b) ∙ length-codes b s
 
 -- vs are the template's differences, x and xs the active samples
 module _ (base : ℤ) (vs : List ℤ) (x : ℤ) (xs : List ℤ) (sb : SFits w32 base) (lv : length vs ≡ 512) (lx : length (x ∷ xs) ≤ 512) (fx : Fit (x ∷ xs)) where

@@ -19,6 +19,7 @@ use Rattle.format.specs.Reencoding.{newBlock, checkNewBlock, activeIn, checkNew
 use Rattle.format.specs.declared.refusals.Checked.the-variants.{Fine}
 use Rattle.format.specs.declared.settings.SampleFormat.the-variants.{Pcm}
 use Rattle.format.specs.declared.answers.Fields.{Fields}
+use Rattle.laws.proofs.Lengths.{samples-512}
 use Rattle.laws.proofs.Parts.{length-tab, getD-tab, from-within}
 use Rattle.laws.proofs.Checks.{pass, _and-then_, in-order, first-fine, others-fine, passed, order-fine}
 use Rattle.laws.proofs.Signs.{AllHold}
@@ -30,7 +31,7 @@ use Rattle.promises.proofs.GroupLaws.{not-float, front, rest-is, coded-
 use Rattle.promises.proofs.GroupCoding.{Group}
 use Rattle.promises.proofs.NewBlocks.{Template, template-ok, newSamples, new-length, new-reads}
 use Rattle.promises.proofs.Bytes.{below-rest}
-use Rattle.promises.proofs.Kept.{block-kept, samples-512, samples-fit, again-block}
+use Rattle.promises.proofs.Kept.{block-kept, samples-fit, again-block}
 
 -- a template's group bs was accepted with the samples s
 pub record Accepted (h : Fields) (g : ℕ) (bs : List ℕ) (s : List ℤ) : Type 0 where

@@ -1,4 +1,4 @@
--- What the tests for NaN say of a float. Assumes nothing.
+-- What the tests for NaN say of a float.
 use mathlib.Core.Path.{_≡_, refl, sym, subst}
 use mathlib.Core.Bool.{true, false}
 use lib.Dec.{T}

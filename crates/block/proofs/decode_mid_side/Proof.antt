@@ -1,4 +1,4 @@
--- `block::decode_mid_side` meets its contract. The loop's invariant: the pairs before i are left and right, those from i on mid and side. Assumes nothing.
+-- `block::decode_mid_side` meets its contract. The loop's invariant: the pairs before i are left and right, those from i on mid and side.
 use mathlib.Core.Path.{_≡_}
 use mathlib.Core.List.{[]}
 use Prim.Native.Nat.{_≤_, _-_}
@@ -29,54 +29,6 @@ loop-holds c =
       split-none _ _ _ _ two (row-long ℤ (SInt w32 .own) 512 (c .args .a) (g .0) 0 (g .1 .1) (omega arith)) (row-long ℤ (SInt w32 .own) 512 (c .args .a) (g .0) 1 (g .1 .1) (omega arith)),
     )
 
-mul-m : tie.Need-mul-m Inv-loop μ-loop
-mul-m c = search needs
-
-index-1-m : tie.Need-index-1-m Inv-loop μ-loop
-index-1-m c = search needs
-
-index-2-m : tie.Need-index-2-m Inv-loop μ-loop
-index-2-m c = search needs
-
-mul-s : tie.Need-mul-s Inv-loop μ-loop
-mul-s c = search needs
-
-index-1-s : tie.Need-index-1-s Inv-loop μ-loop
-index-1-s c = search needs
-
-index-2-s : tie.Need-index-2-s Inv-loop μ-loop
-index-2-s c = search needs
-
-left-requires : tie.Need-left-requires Inv-loop μ-loop
-left-requires c κs = search needs
-
-mul-d : tie.Need-mul-d Inv-loop μ-loop
-mul-d c = search needs
-
-index-1-d : tie.Need-index-1-d Inv-loop μ-loop
-index-1-d c = search needs
-
-index-2-d : tie.Need-index-2-d Inv-loop μ-loop
-index-2-d c = search needs
-
-right-requires : tie.Need-right-requires Inv-loop μ-loop
-right-requires c κs = search needs
-
-mul-t10 : tie.Need-mul-t10 Inv-loop μ-loop
-mul-t10 c = search needs
-
-index-1-d-2 : tie.Need-index-1-d-2 Inv-loop μ-loop
-index-1-d-2 c = search needs
-
-index-2-d-2 : tie.Need-index-2-d-2 Inv-loop μ-loop
-index-2-d-2 c = search needs
-
-add-i : tie.Need-add-i Inv-loop μ-loop
-add-i c = search needs
-
-loop-less : tie.Need-loop-less Inv-loop μ-loop
-loop-less c = search needs
-
 loop-again : tie.Need-loop-again Inv-loop μ-loop
 loop-again c =
     let b = c .before in
@@ -105,21 +57,21 @@ decode-mid-side-spec =
     Inv-loop
     μ-loop
     loop-holds
-    mul-m
-    index-1-m
-    index-2-m
-    mul-s
-    index-1-s
-    index-2-s
-    left-requires
-    mul-d
-    index-1-d
-    index-2-d
-    right-requires
-    mul-t10
-    index-1-d-2
-    index-2-d-2
-    add-i
-    loop-less
+    (λ c. search needs)
+    (λ c. search needs)
+    (λ c. search needs)
+    (λ c. search needs)
+    (λ c. search needs)
+    (λ c. search needs)
+    (λ c κs. search needs)
+    (λ c. search needs)
+    (λ c. search needs)
+    (λ c. search needs)
+    (λ c κs. search needs)
+    (λ c. search needs)
+    (λ c. search needs)
+    (λ c. search needs)
+    (λ c. search needs)
+    (λ c. search needs)
     loop-again
     returns)

@@ -1,4 +1,4 @@
--- `block::float_differs` meets its contract, by cases on the format. Assumes nothing.
+-- `block::float_differs` meets its contract, by cases on the format.
 use Rattle.format.specs.Decoding.{isFloat}
 use borrow.Author.Needs.{needs}
 use Rattle.block.proofs.float_differs.Statement.{statement}

@@ -1,4 +1,4 @@
--- `block::width` meets its contract, by cases on the coding. Assumes nothing.
+-- `block::width` meets its contract, by cases on the coding.
 use Rattle.format.specs.Packed.{widthOf}
 use borrow.Author.Needs.{needs}
 use Rattle.block.proofs.width.Statement.{statement}

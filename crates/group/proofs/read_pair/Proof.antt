@@ -1,4 +1,4 @@
--- `group::read_pair` meets its contract: both blocks are whole, and the first one's bit 0 decides. Assumes nothing.
+-- `group::read_pair` meets its contract: both blocks are whole, and the first one's bit 0 decides.
 use borrow.Author.Needs.{needs}
 use Rattle.group.proofs.Channels.{first-whole, first-inside, second-whole, pair-mid, pair-plain}
 use Rattle.group.proofs.read_pair.Statement.{statement}
@@ -16,20 +16,11 @@ sub-read-block c = search (needs, first-inside)
 part-read-block-start : tie.Need-part-read-block-start
 part-read-block-start c = search (needs, first-inside)
 
-part-read-block-end : tie.Need-part-read-block-end
-part-read-block-end c = search needs
-
 read-block-requires-2 : tie.Need-read-block-requires-2
 read-block-requires-2 c κs = search (needs, second-whole)
 
 read-requires : tie.Need-read-requires
 read-requires c κs = first-whole _ _ _ (c .before .before .before .before .before .pre .0) .header
-
-is-mid-side-requires : tie.Need-is-mid-side-requires
-is-mid-side-requires c κs = search needs
-
-decode-mid-side-requires : tie.Need-decode-mid-side-requires
-decode-mid-side-requires c κs = search needs
 
 returns : tie.Need-returns
 returns c = search (needs, pair-mid)
@@ -45,10 +36,10 @@ read-pair-spec =
     read-block-requires
     sub-read-block
     part-read-block-start
-    part-read-block-end
+    (λ c. search needs)
     read-block-requires-2
     read-requires
-    is-mid-side-requires
-    decode-mid-side-requires
+    (λ c κs. search needs)
+    (λ c κs. search needs)
     returns
     returns-2)

@@ -1,5 +1,5 @@
 -- `group::write_channels` meets its contract. The loop's invariant: `at` is where channel c's block begins, the channels before it are put, and nothing else has changed.
--- Assumes nothing.
+--
 use mathlib.Core.Path.{_≡_, refl, _∙_}
 use Prim.Native.Nat.{_-_, _≤_, _<_}
 use native.Mathlib.Omega.{arith}
@@ -8,7 +8,8 @@ use borrow.Author.Needs.{needs}
 use Rattle.format.specs.Decoding.{coded}
 use Rattle.lent.specs.Lent.{lentOf, restOf, channelsPut}
 use Rattle.lent.proofs.Laws.{same-count}
-use Rattle.group.proofs.Channels.{Begins, begins-first, none-put, whole, begins-next, put-turn, all-channels}
+use Rattle.group.proofs.Places.{Begins, begins-first}
+use Rattle.group.proofs.Channels.{none-put, whole, begins-next, put-turn, all-channels}
 use Rattle.group.proofs.write_channels.Statement.{statement}
 use Rattle.group.proofs.write_channels.Tie as tie
 
@@ -24,22 +25,10 @@ Inv-loop which words₀ bytes₀ bs h first skip n channels at₀ c₀ words byt
 abbrev μ-loop : tie.MeasureT-loop
 μ-loop which words₀ bytes₀ bs h first skip n channels at₀ c₀ words bytes at c = h .channels - c
 
-cast-channels : tie.Need-cast-channels Inv-loop μ-loop
-cast-channels c = search needs
-
 loop-holds : tie.Need-loop-holds Inv-loop μ-loop
 loop-holds c =
     let x = c .before .before .before .args in
     (omega arith, begins-first _ _, refl, refl, none-put _ _ _ _ _ (lentOf (x .which) (x .words .now) (x .bytes .now)), refl)
-
-sub-read-block : tie.Need-sub-read-block Inv-loop μ-loop
-sub-read-block c = search needs
-
-part-read-block-start : tie.Need-part-read-block-start Inv-loop μ-loop
-part-read-block-start c = search needs
-
-part-read-block-end : tie.Need-part-read-block-end Inv-loop μ-loop
-part-read-block-end c = search needs
 
 read-block-requires : tie.Need-read-block-requires Inv-loop μ-loop
 read-block-requires c κs = search (needs, whole)
@@ -51,15 +40,6 @@ put-channel-requires c κs =
     let e = same-count (x .which) (l .loop .words) (x .words .now) (l .loop .bytes) (x .bytes .now) (l .loop .inv .2) (l .loop .inv .3) in
     (search needs, search needs, rw e (search needs))
 
-sub-size-of : tie.Need-sub-size-of Inv-loop μ-loop
-sub-size-of c = search needs
-
-part-size-of-start : tie.Need-part-size-of-start Inv-loop μ-loop
-part-size-of-start c = search needs
-
-part-size-of-end : tie.Need-part-size-of-end Inv-loop μ-loop
-part-size-of-end c = search needs
-
 size-of-requires : tie.Need-size-of-requires Inv-loop μ-loop
 size-of-requires c κs =
     let t = c .before .before .before .before .before .before .before .before .before in
@@ -67,15 +47,6 @@ size-of-requires c κs =
     let a = l .before .before .before .before in
     let w = whole _ _ _ (a .pre .0) _ _ (l .loop .inv .1) (t .loop-test .taken) in
     (w .header, w .most)
-
-add-at : tie.Need-add-at Inv-loop μ-loop
-add-at c = search needs
-
-add-c : tie.Need-add-c Inv-loop μ-loop
-add-c c = search needs
-
-loop-less : tie.Need-loop-less Inv-loop μ-loop
-loop-less c = search needs
 
 loop-again : tie.Need-loop-again Inv-loop μ-loop
 loop-again c =
@@ -93,12 +64,6 @@ loop-again c =
       g .put-channel .ensures .1 ∙ i .5,
     )
 
-same-length : tie.Need-same-length Inv-loop μ-loop
-same-length c = search needs
-
-same-length-2 : tie.Need-same-length-2 Inv-loop μ-loop
-same-length-2 c = search needs
-
 returns : tie.Need-returns Inv-loop μ-loop
 returns c =
     let l = c .before in
@@ -114,21 +79,21 @@ write-channels-spec =
     (tie.spec
     Inv-loop
     μ-loop
-    cast-channels
+    (λ c. search needs)
     loop-holds
-    sub-read-block
-    part-read-block-start
-    part-read-block-end
+    (λ c. search needs)
+    (λ c. search needs)
+    (λ c. search needs)
     read-block-requires
     put-channel-requires
-    sub-size-of
-    part-size-of-start
-    part-size-of-end
+    (λ c. search needs)
+    (λ c. search needs)
+    (λ c. search needs)
     size-of-requires
-    add-at
-    add-c
-    loop-less
+    (λ c. search needs)
+    (λ c. search needs)
+    (λ c. search needs)
     loop-again
-    same-length
-    same-length-2
+    (λ c. search needs)
+    (λ c. search needs)
     returns)

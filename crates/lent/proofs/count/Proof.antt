@@ -1,4 +1,4 @@
--- `lent::count` meets its contract. Assumes nothing.
+-- `lent::count` meets its contract.
 use borrow.Author.Needs.{needs}
 use Rattle.lent.proofs.Laws.{count-words, count-bytes}
 use Rattle.lent.proofs.count.Statement.{statement}

@@ -1,4 +1,4 @@
--- `lent::interleave` meets its contract. The loop's invariant: k frames are put, and nothing else has changed. Assumes nothing.
+-- `lent::interleave` meets its contract. The loop's invariant: k frames are put, and nothing else has changed.
 use mathlib.Core.Path.{_≡_, refl, ap, _∙_}
 use Prim.Native.Nat.{ℕ, _+_, _-_, _*_, _^_, _≤_, _<_}
 use native.Mathlib.Omega.{arith}
@@ -50,18 +50,6 @@ add-put-sample c = let i = c .before .before in omega (arith, fits (i .before .b
 mul-put-sample : tie.Need-mul-put-sample Inv-loop μ-loop
 mul-put-sample c = let i = c .before .before in omega (arith, fits (i .before .before .before), within i)
 
-add-put-sample-2 : tie.Need-add-put-sample-2 Inv-loop μ-loop
-add-put-sample-2 c = search needs
-
-mul-put-sample-2 : tie.Need-mul-put-sample-2 Inv-loop μ-loop
-mul-put-sample-2 c = search needs
-
-index-1-put-sample : tie.Need-index-1-put-sample Inv-loop μ-loop
-index-1-put-sample c = search needs
-
-index-2-put-sample : tie.Need-index-2-put-sample Inv-loop μ-loop
-index-2-put-sample c = search needs
-
 put-sample-requires : tie.Need-put-sample-requires Inv-loop μ-loop
 put-sample-requires c κs = let i = c .before .before .before in rw (i .before .loop .inv .3, kept i) (omega (arith, within i))
 
@@ -74,29 +62,11 @@ mul-put-sample-3 c = let i = c .before .before .before .before .before .before .
 add-put-sample-4 : tie.Need-add-put-sample-4 Inv-loop μ-loop
 add-put-sample-4 c = let i = c .before .before .before .before .before .before .before .before .before in omega (arith, fits (i .before .before .before), within i)
 
-add-put-sample-5 : tie.Need-add-put-sample-5 Inv-loop μ-loop
-add-put-sample-5 c = search needs
-
-mul-put-sample-4 : tie.Need-mul-put-sample-4 Inv-loop μ-loop
-mul-put-sample-4 c = search needs
-
-index-1-put-sample-2 : tie.Need-index-1-put-sample-2 Inv-loop μ-loop
-index-1-put-sample-2 c = search needs
-
-index-2-put-sample-2 : tie.Need-index-2-put-sample-2 Inv-loop μ-loop
-index-2-put-sample-2 c = search needs
-
 put-sample-requires-2 : tie.Need-put-sample-requires-2 Inv-loop μ-loop
 put-sample-requires-2 c κs =
     let g = c .before .before .before .before .before .before in
     let i = g .before .before .before .before in
     rw (g .put-sample .ensures .0, length-set, i .before .loop .inv .3, kept i) (omega (arith, within i))
-
-add-k : tie.Need-add-k Inv-loop μ-loop
-add-k c = search needs
-
-loop-less : tie.Need-loop-less Inv-loop μ-loop
-loop-less c = search needs
 
 loop-again : tie.Need-loop-again Inv-loop μ-loop
 loop-again c =
@@ -115,12 +85,6 @@ loop-again c =
       h .put-sample2 .ensures .1 ∙ g .put-sample .ensures .1 ∙ i .4,
     )
 
-same-length : tie.Need-same-length Inv-loop μ-loop
-same-length c = search needs
-
-same-length-2 : tie.Need-same-length-2 Inv-loop μ-loop
-same-length-2 c = search needs
-
 returns : tie.Need-returns Inv-loop μ-loop
 returns c =
     let i = c .before .loop .inv in
@@ -136,22 +100,22 @@ interleave-spec =
     loop-holds
     add-put-sample
     mul-put-sample
-    add-put-sample-2
-    mul-put-sample-2
-    index-1-put-sample
-    index-2-put-sample
+    (λ c. search needs)
+    (λ c. search needs)
+    (λ c. search needs)
+    (λ c. search needs)
     put-sample-requires
     add-put-sample-3
     mul-put-sample-3
     add-put-sample-4
-    add-put-sample-5
-    mul-put-sample-4
-    index-1-put-sample-2
-    index-2-put-sample-2
+    (λ c. search needs)
+    (λ c. search needs)
+    (λ c. search needs)
+    (λ c. search needs)
     put-sample-requires-2
-    add-k
-    loop-less
+    (λ c. search needs)
+    (λ c. search needs)
     loop-again
-    same-length
-    same-length-2
+    (λ c. search needs)
+    (λ c. search needs)
     returns)

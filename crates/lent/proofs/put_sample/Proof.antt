@@ -1,4 +1,4 @@
--- `lent::put_sample` meets its contract: a store among the words, or of four bytes. Assumes nothing.
+-- `lent::put_sample` meets its contract: a store among the words, or of four bytes.
 use native.Mathlib.Omega.{arith}
 use mir.Syntax.{w32}
 use mir.ValLaws.{toZ-ofZ}
@@ -7,29 +7,17 @@ use Rattle.lent.proofs.put_sample.Statement.{statement}
 use Rattle.lent.proofs.put_sample.Tie as tie
 use Rattle.lent.proofs.Laws.{word-in, bytes-in, words-put, words-keep, bytes-put, bytes-keep}
 
-enum-told : tie.Need-enum-told
-enum-told c = search needs
-
 mul-v : tie.Need-mul-v
 mul-v c = let a = c .before .before .before in omega (arith, word-in (a .args .words .now) (a .args .bytes .now) (a .args .i) (a .pre) (c .enum-told .given .1))
 
 slice-set-from-v : tie.Need-slice-set-from-v
 slice-set-from-v c = let a = c .before .before .before in word-in (a .args .words .now) (a .args .bytes .now) (a .args .i) (a .pre) (c .enum-told .given .1)
 
-enum-told-2 : tie.Need-enum-told-2
-enum-told-2 c = search needs
-
 mul-put-word : tie.Need-mul-put-word
 mul-put-word c = let a = c .before .before .before .before in omega (arith, bytes-in (a .args .words .now) (a .args .bytes .now) (a .args .i) (a .pre) (c .before .enum-told2 .given .1))
 
-bits-of-requires : tie.Need-bits-of-requires
-bits-of-requires c κs = search needs
-
 put-word-requires : tie.Need-put-word-requires
 put-word-requires c κs = let a = c .before .before .before .before .before in omega (arith, bytes-in (a .args .words .now) (a .args .bytes .now) (a .args .i) (a .pre) (c .before .before .enum-told2 .given .1))
-
-same-length : tie.Need-same-length
-same-length c = search needs
 
 returns : tie.Need-returns
 returns c =
@@ -37,9 +25,6 @@ returns c =
     let x = a .args in
     let e = c .enum-told .given .1 in
     rw (toZ-ofZ w32 (x .v) (a .fits .v)) (words-put (x .words .now) (x .bytes .now) (x .i) (a .pre) e (x .v), words-keep (x .words .now) (x .bytes .now) (x .i) (a .pre) e (x .v))
-
-same-length-2 : tie.Need-same-length-2
-same-length-2 c = search needs
 
 returns-2 : tie.Need-returns-2
 returns-2 c =
@@ -54,14 +39,14 @@ pub put-sample-spec : {M : Type 1} → statement M
 put-sample-spec =
     tie.close
     (tie.spec
-    enum-told
+    (λ c. search needs)
     mul-v
     slice-set-from-v
-    enum-told-2
+    (λ c. search needs)
     mul-put-word
-    bits-of-requires
+    (λ c κs. search needs)
     put-word-requires
-    same-length
+    (λ c. search needs)
     returns
-    same-length-2
+    (λ c. search needs)
     returns-2)

@@ -1,4 +1,4 @@
--- `sample::bits_of` meets its contract. Assumes nothing.
+-- `sample::bits_of` meets its contract.
 use mathlib.Core.Path.{sym}
 use native.Mathlib.Omega.{arith}
 use mir.Syntax.{w32}

@@ -1,4 +1,4 @@
--- `sample::float_difference` meets its contract: what the calls ensure, put together. Assumes nothing.
+-- `sample::float_difference` meets its contract: what the calls ensure, put together.
 use borrow.Author.Needs.{needs}
 use Rattle.sample.proofs.float_difference.Statement.{statement}
 use Rattle.sample.proofs.float_difference.Tie as tie

@@ -1,4 +1,4 @@
--- `sample::float_of` meets its contract. Assumes nothing.
+-- `sample::float_of` meets its contract.
 use borrow.Author.Needs.{needs}
 use mathlib.Core.Path.{_≡_}
 use mathlib.Core.Bool.{true, false}

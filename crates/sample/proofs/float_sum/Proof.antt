@@ -1,4 +1,4 @@
--- `sample::float_sum` meets its contract: what the calls ensure, put together. Assumes nothing.
+-- `sample::float_sum` meets its contract: what the calls ensure, put together.
 use borrow.Author.Needs.{needs}
 use Rattle.sample.proofs.float_sum.Statement.{statement}
 use Rattle.sample.proofs.float_sum.Tie as tie

@@ -1,4 +1,4 @@
--- `sample::is_nan` meets its contract: `nanBits-above`. Assumes nothing.
+-- `sample::is_nan` meets its contract: `nanBits-above`.
 use mathlib.Core.Path.{sym}
 use lib.Ieee.{binary32}
 use lib.Ieee.Bits.{nanBits-above}

@@ -1,4 +1,4 @@
--- `sample::of_bits` meets its contract. Assumes nothing.
+-- `sample::of_bits` meets its contract.
 use mathlib.Core.Path.{ap}
 use borrow.Author.Needs.{needs}
 use Rattle.format.specs.Numbers.{value}

@@ -1,4 +1,4 @@
--- `sample::pattern_of` meets its contract. Assumes nothing.
+-- `sample::pattern_of` meets its contract.
 use Rattle.format.specs.MidSide.{patternOf}
 use Rattle.sample.proofs.Nans.{differs, same}
 use Rattle.sample.proofs.pattern_of.Statement.{statement}

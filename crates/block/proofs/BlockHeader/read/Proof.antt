@@ -1,30 +1,12 @@
--- `block::BlockHeader::read` meets its contract: a code of 16 bits means a number that an i16 holds. Assumes nothing.
+-- `block::BlockHeader::read` meets its contract: a code of 16 bits means a number that an i16 holds.
 use native.Mathlib.Omega.{arith}
 use Rattle.block.proofs.Headers.{word-fits, header-is}
 use borrow.Author.Needs.{needs}
 use Rattle.block.proofs.BlockHeader.read.Statement.{statement}
 use Rattle.block.proofs.BlockHeader.read.Tie as tie
 
-read-u32-le-requires : tie.Need-read-u32-le-requires
-read-u32-le-requires c κs = search needs
-
-sign-extend-requires : tie.Need-sign-extend-requires
-sign-extend-requires c κs = search needs
-
-read-u16-le-requires : tie.Need-read-u16-le-requires
-read-u16-le-requires c κs = search needs
-
-cast-sign-extend : tie.Need-cast-sign-extend
-cast-sign-extend c = search needs
-
-sign-extend-requires-2 : tie.Need-sign-extend-requires-2
-sign-extend-requires-2 c κs = search needs
-
 cast-t7 : tie.Need-cast-t7
 cast-t7 c = word-fits (c .sign-extend2 .result) (c .before .read-u16-le .result) (omega arith) (c .sign-extend2 .ensures)
-
-read-u16-le-requires-2 : tie.Need-read-u16-le-requires-2
-read-u16-le-requires-2 c κs = search needs
 
 returns : tie.Need-returns
 returns c =
@@ -37,11 +19,11 @@ pub read-spec : {M : Type 1} → statement M
 read-spec =
     tie.close
     (tie.spec
-    read-u32-le-requires
-    sign-extend-requires
-    read-u16-le-requires
-    cast-sign-extend
-    sign-extend-requires-2
+    (λ c κs. search needs)
+    (λ c κs. search needs)
+    (λ c κs. search needs)
+    (λ c. search needs)
+    (λ c κs. search needs)
     cast-t7
-    read-u16-le-requires-2
+    (λ c κs. search needs)
     returns)

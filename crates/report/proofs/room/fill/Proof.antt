@@ -12,32 +12,11 @@ Inv-loop room₀ i₀ room i = (i ≤ length room) × (length room ≡ length ro
 abbrev μ-loop : tie.MeasureT-loop
 μ-loop room₀ i₀ room i = length room - i
 
-loop-holds : tie.Need-loop-holds Inv-loop μ-loop
-loop-holds c = search needs
-
-mark-requires : tie.Need-mark-requires Inv-loop μ-loop
-mark-requires c κs = search needs
-
-mul-t3 : tie.Need-mul-t3 Inv-loop μ-loop
-mul-t3 c = search needs
-
-slice-set-from-room : tie.Need-slice-set-from-room Inv-loop μ-loop
-slice-set-from-room c = search needs
-
-add-i : tie.Need-add-i Inv-loop μ-loop
-add-i c = search needs
-
 loop-less : tie.Need-loop-less Inv-loop μ-loop
 loop-less c = simp length-set (omega arith)
 
 loop-again : tie.Need-loop-again Inv-loop μ-loop
 loop-again c = simp length-set (omega arith, omega arith)
-
-same-length : tie.Need-same-length Inv-loop μ-loop
-same-length c = search needs
-
-returns : tie.Need-returns Inv-loop μ-loop
-returns c = search needs
 
 pub fill-spec : {M : Type 1} → statement M
 fill-spec =
@@ -45,12 +24,12 @@ fill-spec =
     (tie.spec
     Inv-loop
     μ-loop
-    loop-holds
-    mark-requires
-    mul-t3
-    slice-set-from-room
-    add-i
+    (λ c. search needs)
+    (λ c κs. search needs)
+    (λ c. search needs)
+    (λ c. search needs)
+    (λ c. search needs)
     loop-less
     loop-again
-    same-length
-    returns)
+    (λ c. search needs)
+    (λ c. search needs))

@@ -1,0 +1,73 @@
+use borrow.Author.Needs.{needs}
+use Rattle.reader.proofs.Ways.{step-refused, step-keeps, step-opens, step-fields, step-done, done-keeps, step-rises, step-within, step-readable, step-room, step-reads, puts-group}
+use Rattle.reader.proofs.decode_group_lent.Statement.{statement}
+use Rattle.reader.proofs.decode_group_lent.Tie as tie
+
+returns : tie.Need-returns
+returns c = (search step-refused, (search step-keeps, search needs))
+
+read-fields-requires : tie.Need-read-fields-requires
+read-fields-requires c κs = search step-fields
+
+returns-2 : tie.Need-returns-2
+returns-2 c = (search step-done, (search done-keeps, search needs))
+
+format-of-requires : tie.Need-format-of-requires
+format-of-requires c κs = (search step-opens, search needs)
+
+offset-of-requires : tie.Need-offset-of-requires
+offset-of-requires c κs = (search step-opens, search needs, search needs)
+
+offset-of-requires-2 : tie.Need-offset-of-requires-2
+offset-of-requires-2 c κs = (search step-opens, search needs, search needs)
+
+sub-write-group : tie.Need-sub-write-group
+sub-write-group c = search step-rises
+
+part-write-group-start : tie.Need-part-write-group-start
+part-write-group-start c = search step-rises
+
+part-write-group-end : tie.Need-part-write-group-end
+part-write-group-end c =
+    let o = c .before .before .before in
+    let i = o .before .before .before in
+    let r = i .before .before in
+    let w = r .before .before .before in
+    step-within _ _ _ _ (w .check-walk .ensures) (r .before .enum-told .given .1) _ (r .read-fields .ensures) _ (i .before .groups-of .ensures .0) (i .if1 .left) _ _ (o .before .offset-of .ensures) (o .offset-of2 .ensures)
+
+write-group-requires : tie.Need-write-group-requires
+write-group-requires c κs = (search step-readable, search needs, search step-room)
+
+returns-3 : tie.Need-returns-3
+returns-3 c = (search step-reads, (search puts-group, search needs))
+
+pub decode-group-lent-spec : {M : Type 1} → statement M
+decode-group-lent-spec =
+    tie.close
+    (tie.spec
+    (λ c κs. search needs)
+    (λ c κs. search needs)
+    (λ c. search needs)
+    (λ c. search needs)
+    (λ c. search needs)
+    returns
+    (λ c. search needs)
+    read-fields-requires
+    (λ c κs. search needs)
+    (λ c. search needs)
+    (λ c. search needs)
+    returns-2
+    format-of-requires
+    offset-of-requires
+    (λ c. search needs)
+    offset-of-requires-2
+    (λ c κs. search needs)
+    sub-write-group
+    part-write-group-start
+    part-write-group-end
+    write-group-requires
+    (λ c. search needs)
+    (λ c κs. search needs)
+    (λ c. search needs)
+    (λ c. search needs)
+    returns-3)

@@ -1,0 +1,39 @@
+// The samples of a file whose checks have passed.
+use crate::checking::offset_of;
+use format::Fields;
+use format::SampleFormat;
+use lent::Container;
+ghost use mathlib.Core.Path.{_≡_};
+ghost use Prim.Native.Nat.{ℕ, _*_, _≤_};
+ghost use lib.ListN.{length};
+ghost use Rattle.format.specs.Lists.{over};
+ghost use Rattle.format.specs.Header.{fieldsOf};
+ghost use Rattle.format.specs.Opening.{formatOf};
+ghost use Rattle.format.specs.Decoding.{checkDecode, decodedOf};
+ghost use Rattle.format.specs.declared.refusals.Checked.the-variants.{Fine};
+ghost use Rattle.lent.specs.Lent.{lentOf, restOf};
+
+// Each group's samples, where they lie in the whole.
+pub fn write_groups(
+    which: Container,
+    words: &mut [i32],
+    bytes: &mut [u8],
+    file: &[u8],
+    h: Fields,
+    format: SampleFormat,
+)
+    requires { ⌜ (checkDecode (now file) ≡ Fine) × (h ≡ fieldsOf (now file)) × (format ≡ formatOf (now file) h) × (h .frames * h .channels ≤ length (lentOf which (now words) (now bytes))) ⌝ }
+    ensures puts { λ _. ⌜ lentOf which (now (words .exit)) (now (bytes .exit)) ≡ over (decodedOf (now (file .entry))) (lentOf which (now (words .entry)) (now (bytes .entry))) ⌝ }
+    ensures keeps { λ _. ⌜ restOf which (now (words .exit)) (now (bytes .exit)) ≡ restOf which (now (words .entry)) (now (bytes .entry)) ⌝ }
+{
+    let groups = header::groups_of(h.frames);
+    let mut g: u32 = 0;
+    while g < groups {
+        let a = offset_of(file, h, g);
+        let e = offset_of(file, h, g + 1);
+        let first = 512 * g as usize;
+        let n = group::active(h.frames, g);
+        group::write_group(which, words, bytes, &file[a..e], h, format, first, 0, n);
+        g += 1;
+    }
+}
