@@ -69,18 +69,18 @@ module _ (depth : ℕ) (r : List ℕ) (whole : Whole depth r) (n : ℕ) (size : 
     pub run-length : length (take (n - 16) (drop 16 r)) ≡ 64 * w
     run-length = length-take-le (n - 16) (drop 16 r) (let h : n ≤ length r = rw size (whole .run) in omega (arith, length-drop 16 r)) ∙ run-is
 
-    run-values : (vs : List ℤ) → vs ≡ values w (take (n - 16) (drop 16 r)) → vs ≡ values w (take (64 * w) (drop 16 r))
-    run-values vs e = e ∙ ap (λ (m : ℕ). values w (take m (drop 16 r))) run-is
+    run-values : values w (take (n - 16) (drop 16 r)) ≡ values w (take (64 * w) (drop 16 r))
+    run-values = ap (λ (m : ℕ). values w (take m (drop 16 r))) run-is
 
-  module _ (w : ℕ) (vs : List ℤ) (read : vs ≡ values w (take (n - 16) (drop 16 r))) where
-    pub raw-samples : k ≡ Raw w → vs ≡ samplesOf depth r
-    unfolding samplesOf decoded
-    raw-samples e = rw (← is, e) (run-values w (width-raw k w e) vs read)
+  pub raw-samples : (w : ℕ) (xs : List ℤ) → k ≡ Raw w → xs ≡ values w (take (n - 16) (drop 16 r)) → xs ≡ samplesOf depth r
+  unfolding samplesOf decoded
+  raw-samples w xs e s = rw (← is, e) (s ∙ run-values w (width-raw k w e))
 
-    pub difference-samples : (xs : List ℤ) → SFits w32 (b .base) → k ≡ Differences w → xs ≡ rebuilt (toZ w32 (ofZ w32 (b .base))) vs → xs ≡ samplesOf depth r
-    unfolding samplesOf decoded blockHeader
-    difference-samples xs f e s =
-        rw (← is, e) (s ∙ ap₂ rebuilt (toZ-ofZ w32 (b .base) f ∙ ap (λ (x : BlockHeader). x .base) header) (run-values w (width-differences k w e) vs read))
+  pub difference-samples : (w : ℕ) (xs : List ℤ) → SFits w32 (b .base) → k ≡ Differences w → xs ≡ rebuilt (toZ w32 (ofZ w32 (b .base))) (values w (take (n - 16) (drop 16 r)))
+      → xs ≡ samplesOf depth r
+  unfolding samplesOf decoded blockHeader
+  difference-samples w xs f e s =
+      rw (← is, e) (s ∙ ap₂ rebuilt (toZ-ofZ w32 (b .base) f ∙ ap (λ (x : BlockHeader). x .base) header) (run-values w (width-differences k w e)))
 
   pub none-beyond : (xs : List ℤ) → k ≡ Beyond → xs ≡ samplesOf depth r
   unfolding isBeyond

@@ -27,24 +27,24 @@ module _ {A : Type 0} where
   left-now : (l : List A) (k : ℕ) (d : A) → k < length l → drop k l ≡ getD l k d ∷ drop (k + 1) l
   left-now l k d h = rw (add-one, ← drop-cons l k d h)
 
--- ---- running sums: x is sample k
-module _ (samples : List ℤ) where
+-- ---- running sums of the values vs: x is sample k
+module _ (base : ℤ) (vs : List ℤ) where
   abbrev pub Summed : List ℤ → ℤ → ℕ → Type 0
-  Summed out x k = take k out ++ rebuilt x (drop k out) ≡ samples
+  Summed out x k = take k out ++ rebuilt x (drop k vs) ≡ rebuilt base vs
 
-  pub summed-more : (out : List ℤ) (x y : ℤ) (k : ℕ) → k < length out → y ≡ plus x (getD out k (pos 0)) → Summed out x k → Summed (set out k x) y (k + 1)
+  pub summed-more : (out : List ℤ) (x y : ℤ) (k : ℕ) → k < length out → k < length vs → y ≡ plus x (getD vs k (pos 0)) → Summed out x k → Summed (set out k x) y (k + 1)
   unfolding rebuilt
-  summed-more out x y k h e p =
-      done-more out (rebuilt y (drop (k + 1) (set out k x))) k x h
-      ∙ ap₂ (λ (z : ℤ) (l : List ℤ). take k out ++ (x ∷ rebuilt z l)) e (left-more out k x)
-      ∙ ap (λ (l : List ℤ). take k out ++ rebuilt x l) (sym (left-now out k (pos 0) h))
+  summed-more out x y k h l e p =
+      done-more out (rebuilt y (drop (k + 1) vs)) k x h
+      ∙ ap (λ (z : ℤ). take k out ++ (x ∷ rebuilt z (drop (k + 1) vs))) e
+      ∙ ap (λ (t : List ℤ). take k out ++ rebuilt x t) (sym (left-now vs k (pos 0) l))
       ∙ p
 
-  pub summed-all : (out : List ℤ) (x : ℤ) (k : ℕ) → length out ≤ k → Summed out x k → out ≡ samples
+  pub summed-all : (out : List ℤ) (x : ℤ) (k : ℕ) → length out ≤ k → length vs ≤ k → Summed out x k → out ≡ rebuilt base vs
   unfolding rebuilt
-  summed-all out x k h p =
+  summed-all out x k h l p =
       sym (append-nil out)
-      ∙ ap₂ (λ (a b : List ℤ). a ++ rebuilt x b) (sym (take-all k out h)) (sym (drop-of-length-le out h))
+      ∙ ap₂ (λ (a b : List ℤ). a ++ rebuilt x b) (sym (take-all k out h)) (sym (drop-of-length-le vs l))
       ∙ p
 
 -- ---- pairs of two rows a and b: those before i are done in t, which is one of the two

@@ -1,4 +1,5 @@
 // One channel's block: its header, its checks, its samples, and mid/side: block.rs of the Rust.
+use bits::Cursor;
 use format::Checked;
 use format::Coding;
 use format::Fields;
@@ -11,7 +12,7 @@ ghost use mathlib.Core.Bool.{cond, not, _&&_};
 ghost use Prim.Native.Nat.{ℕ, _+_, _*_, _/_, _%_, _<_, _≤_};
 ghost use lib.Dec.{eqb};
 ghost use lib.ListN.{length};
-ghost use Rattle.format.specs.Packed.{coding, widthOf, rebuilt};
+ghost use Rattle.format.specs.Packed.{coding, widthOf, values, rebuilt};
 ghost use Rattle.format.specs.Blocks.{isBlock, midBit, sizeOf, samplesOf};
 ghost use Rattle.format.specs.MidSide.{leftRight};
 ghost use Rattle.format.specs.Decoding.{isFloat, checkBlock};
@@ -138,16 +139,22 @@ pub fn check_block(h: Fields, format: SampleFormat, c: u32, r: &[u8]) -> Checked
     Checked::Fine
 }
 
-// Sample 0 is the base, sample k + 1 is sample k plus difference k.
-fn rebuild(base: i32, differences: [i32; 512]) -> [i32; 512]
-    ensures { λ r. ⌜ r ≡ rebuilt base differences ⌝ }
+// Sample 0 is the base, sample k + 1 is sample k plus difference k, as they come from the run.
+fn rebuild(base: i32, run: &[u8], bits: u32) -> [i32; 512]
+    requires { ⌜ (1 ≤ bits) × (bits ≤ 32) × (length (now run) ≡ 64 * bits) ⌝ }
+    ensures { λ r. ⌜ r ≡ rebuilt base (values bits (now (run .entry))) ⌝ }
 {
-    let mut out = differences;
+    let mut out = [0i32; 512];
+    let mut cursor = Cursor::start();
     let mut x = base;
-    for k in 0..512usize {
-        let d = out[k];
+    let mut k: usize = 0;
+    while k < 512 {
         out[k] = x;
+        let n = cursor.next(run, bits);
+        let d = n.value;
         x = sample::wrapping_add(x, d);
+        cursor = n.cursor;
+        k += 1;
     }
     out
 }
@@ -161,7 +168,7 @@ pub fn read_block(r: &[u8], depth: u16) -> [i32; 512]
     let end = size_of(r, depth);
     let coding = coding(depth, b.bits);
     match coding {
-        Coding::Differences(w) => rebuild(b.base, bits::packed_values(&r[16..end], w)),
+        Coding::Differences(w) => rebuild(b.base, &r[16..end], w),
         Coding::Raw(w) => bits::packed_values(&r[16..end], w),
         Coding::Beyond => [0i32; 512],
     }

@@ -1,6 +1,7 @@
 -- Document 01, "Numbers of refusal": what a call returns, and what lent memory then holds.
 use mathlib.Core.List.{List}
 use Rattle.format.specs.Lists.{over}
+use Rattle.format.specs.declared.refusals.Refusal.{Refusal}
 use Rattle.format.specs.declared.refusals.Checked.{Checked}
 use Rattle.format.specs.declared.refusals.Checked.the-variants.{Fine, No}
 use Rattle.format.specs.declared.answers.Outcome.{Outcome}
@@ -8,9 +9,15 @@ use Rattle.format.specs.declared.answers.Outcome.the-variants.{Refused}
 use Rattle.format.specs.declared.answers.Answer.{Answer}
 
 -- a refusal returns its number; success what was found, or the length written
+abbrev pub answeredBy : Outcome → Answer
+answeredBy o = record { outcome = o }
+
+abbrev pub refusedBy : Refusal → Answer
+refusedBy r = answeredBy (Refused r)
+
 abbrev pub answered : Checked → Outcome → Answer
-answered Fine o = record { outcome = o }
-answered (No r) o = record { outcome = Refused r }
+answered Fine o = answeredBy o
+answered (No r) o = refusedBy r
 
 -- a refusal changes no lent byte or sample; after success what lies after the written stays
 abbrev pub filled : {A : Type 0} → Checked → List A → List A → List A

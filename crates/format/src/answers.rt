@@ -1,12 +1,11 @@
 // What a caller is told.
-use crate::refusals::Checked;
 use crate::refusals::Refusal;
 use crate::settings::SampleFormat;
 use crate::units::Depth;
 use crate::units::Frames;
 use crate::units::Samples;
 ghost use mathlib.Core.Path.{_≡_};
-ghost use Rattle.format.specs.Answers.{answered};
+ghost use Rattle.format.specs.Answers.{answeredBy, refusedBy};
 
 // The header's numbers, as they stand in bytes 8 to 31: NcwHeader of the Rust.
 pub struct Fields {
@@ -47,14 +46,15 @@ pub struct Answer {
 }
 
 impl Answer {
-    pub fn new(checked: Checked, outcome: Outcome) -> Answer
-        ensures { λ r. ⌜ r ≡ answered checked outcome ⌝ }
+    pub fn of(outcome: Outcome) -> Answer
+        ensures { λ r. ⌜ r ≡ answeredBy outcome ⌝ }
     {
-        match checked {
-            Checked::Fine => Answer { outcome },
-            Checked::No(r) => Answer {
-                outcome: Outcome::Refused(r),
-            },
-        }
+        Answer { outcome }
+    }
+
+    pub fn refused(refusal: Refusal) -> Answer
+        ensures { λ r. ⌜ r ≡ refusedBy refusal ⌝ }
+    {
+        Answer::of(Outcome::Refused(refusal))
     }
 }

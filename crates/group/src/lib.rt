@@ -48,8 +48,9 @@ fn read_pair(h: Fields, format: SampleFormat, bs: &[u8]) -> [[i32; 512]; 2]
     ensures { λ r. ⌜ r ≡ channelsOf h format (now (bs .entry)) ⌝ }
 {
     let at = block::size_of(bs, h.depth);
+    let second = &bs[at..];
     let l = block::read_block(bs, h.depth);
-    let r = block::read_block(&bs[at..], h.depth);
+    let r = block::read_block(second, h.depth);
     let a = [l, r];
     let b = block::BlockHeader::read(bs);
     if b.is_mid_side() {

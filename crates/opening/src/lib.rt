@@ -103,11 +103,7 @@ pub fn open(file: &[u8]) -> Answer
     ensures { λ r. ⌜ r ≡ openOf (now (file .entry)) ⌝ }
 {
     if let Checked::No(r) = check_open(file) {
-        return Answer {
-            outcome: Outcome::Refused(r),
-        };
+        return Answer::refused(r);
     }
-    Answer {
-        outcome: Outcome::Opened(header_of(file)),
-    }
+    Answer::of(Outcome::Opened(header_of(file)))
 }

@@ -25,22 +25,16 @@ pub fn decode_lent(which: Container, file: &[u8], words: &mut [i32], bytes: &mut
     ensures keeps { λ _. ⌜ restOf which (now (words .exit)) (now (bytes .exit)) ≡ restOf which (now (words .entry)) (now (bytes .entry)) ⌝ }
 {
     if let Checked::No(r) = check_decode(file) {
-        return Answer {
-            outcome: Outcome::Refused(r),
-        };
+        return Answer::refused(r);
     }
     let h = header::read_fields(file);
     let frames = Frames(h.frames);
     let samples = frames.samples(h.channels);
     if (lent::count(which, words, bytes) as u64) < samples.0 {
-        return Answer {
-            outcome: Outcome::Refused(Refusal::OutputTooShort),
-        };
+        return Answer::refused(Refusal::OutputTooShort);
     }
     write_groups(which, words, bytes, file, h, opening::format_of(file, h));
-    Answer {
-        outcome: Outcome::Read(samples),
-    }
+    Answer::of(Outcome::Read(samples))
 }
 
 pub fn decode_samples(file: &[u8], out: &mut [i32]) -> Answer
@@ -62,15 +56,11 @@ pub fn decode_group_lent(
     ensures keeps { λ _. ⌜ restOf which (now (words .exit)) (now (bytes .exit)) ≡ restOf which (now (words .entry)) (now (bytes .entry)) ⌝ }
 {
     if let Checked::No(r) = check_walk(file, g, lent::count(which, words, bytes)) {
-        return Answer {
-            outcome: Outcome::Refused(r),
-        };
+        return Answer::refused(r);
     }
     let h = header::read_fields(file);
     if header::groups_of(h.frames) <= g {
-        return Answer {
-            outcome: Outcome::Finished,
-        };
+        return Answer::of(Outcome::Finished);
     }
     let format = opening::format_of(file, h);
     let a = offset_of(file, h, g);
@@ -78,9 +68,7 @@ pub fn decode_group_lent(
     let n = group::active(h.frames, g);
     group::write_group(which, words, bytes, &file[a..e], h, format, 0, 0, n);
     let frames = Frames(n as u32);
-    Answer {
-        outcome: Outcome::Read(frames.samples(h.channels)),
-    }
+    Answer::of(Outcome::Read(frames.samples(h.channels)))
 }
 
 pub fn decode_group(file: &[u8], g: u32, out: &mut [i32]) -> Answer

@@ -6,7 +6,7 @@ use lib.ListN.{length, length-set}
 use borrow.Author.Count.{below-none}
 use Rattle.bits.specs.Place.{Valid, place}
 use Rattle.bits.proofs.Steps.{at-origin}
-use Rattle.bits.proofs.Run.{Done, one-more, all-done, room, next-place}
+use Rattle.bits.proofs.Run.{Done, next-value, one-more, all-done, room, next-place}
 use Rattle.bits.proofs.packed_values.Statement.{statement}
 use Rattle.bits.proofs.packed_values.Tie as tie
 
@@ -42,7 +42,7 @@ loop-less c = omega arith
 loop-again : tie.Need-loop-again Inv-loop μ-loop
 loop-again c =
     let l = c .before .before .before .before .loop in
-    (omega arith, rw length-set (l .inv .1), c .before .before .next .ensures .valid, search next-place, search one-more)
+    (omega arith, rw length-set (l .inv .1), c .before .before .next .ensures .valid, search next-place, search (one-more, next-value))
 
 returns : tie.Need-returns Inv-loop μ-loop
 returns c = search all-done

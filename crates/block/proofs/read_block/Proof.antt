@@ -4,6 +4,15 @@ use borrow.Author.Needs.{needs}
 use Rattle.block.proofs.read_block.Statement.{statement}
 use Rattle.block.proofs.read_block.Tie as tie
 
+sub-rebuild : tie.Need-sub-rebuild
+sub-rebuild c = search (needs, size-least)
+
+part-rebuild-start : tie.Need-part-rebuild-start
+part-rebuild-start c = search (needs, size-least)
+
+rebuild-requires : tie.Need-rebuild-requires
+rebuild-requires c κs = search (needs, width-1, width-32, run-length, width-differences)
+
 sub-packed-values : tie.Need-sub-packed-values
 sub-packed-values c = search (needs, size-least)
 
@@ -11,16 +20,7 @@ part-packed-values-start : tie.Need-part-packed-values-start
 part-packed-values-start c = search (needs, size-least)
 
 packed-values-requires : tie.Need-packed-values-requires
-packed-values-requires c κs = search (needs, width-1, width-32, run-length, width-differences)
-
-sub-packed-values-2 : tie.Need-sub-packed-values-2
-sub-packed-values-2 c = search (needs, size-least)
-
-part-packed-values-start-2 : tie.Need-part-packed-values-start-2
-part-packed-values-start-2 c = search (needs, size-least)
-
-packed-values-requires-2 : tie.Need-packed-values-requires-2
-packed-values-requires-2 c κs = search (needs, width-1, width-32, run-length, width-raw)
+packed-values-requires c κs = search (needs, width-1, width-32, run-length, width-raw)
 
 returns : tie.Need-returns
 returns c = search (needs, difference-samples)
@@ -39,16 +39,15 @@ read-block-spec =
     (λ c κs. search needs)
     (λ c κs. search needs)
     (λ c. search needs)
+    sub-rebuild
+    part-rebuild-start
+    (λ c. search needs)
+    rebuild-requires
+    (λ c. search needs)
     sub-packed-values
     part-packed-values-start
     (λ c. search needs)
     packed-values-requires
-    (λ c κs. search needs)
-    (λ c. search needs)
-    sub-packed-values-2
-    part-packed-values-start-2
-    (λ c. search needs)
-    packed-values-requires-2
     (λ c. search needs)
     returns
     returns-2

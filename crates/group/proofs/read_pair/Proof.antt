@@ -1,4 +1,4 @@
--- `group::read_pair` meets its contract: both blocks are whole, and the first one's bit 0 decides.
+-- Both blocks are whole, and the first one's bit 0 decides.
 use borrow.Author.Needs.{needs}
 use Rattle.group.proofs.Channels.{first-whole, first-inside, second-whole, pair-mid, pair-plain}
 use Rattle.group.proofs.read_pair.Statement.{statement}
@@ -7,14 +7,14 @@ use Rattle.group.proofs.read_pair.Tie as tie
 size-of-requires : tie.Need-size-of-requires
 size-of-requires c κs = let w = first-whole _ _ _ (c .before .pre .0) in (w .header, w .most)
 
+sub-second : tie.Need-sub-second
+sub-second c = search (needs, first-inside)
+
+part-second-start : tie.Need-part-second-start
+part-second-start c = search (needs, first-inside)
+
 read-block-requires : tie.Need-read-block-requires
-read-block-requires c κs = first-whole _ _ _ (c .before .before .pre .0)
-
-sub-read-block : tie.Need-sub-read-block
-sub-read-block c = search (needs, first-inside)
-
-part-read-block-start : tie.Need-part-read-block-start
-part-read-block-start c = search (needs, first-inside)
+read-block-requires c κs = search first-whole
 
 read-block-requires-2 : tie.Need-read-block-requires-2
 read-block-requires-2 c κs = search (needs, second-whole)
@@ -33,10 +33,10 @@ read-pair-spec =
     tie.close
     (tie.spec
     size-of-requires
-    read-block-requires
-    sub-read-block
-    part-read-block-start
+    sub-second
+    part-second-start
     (λ c. search needs)
+    read-block-requires
     read-block-requires-2
     read-requires
     (λ c κs. search needs)

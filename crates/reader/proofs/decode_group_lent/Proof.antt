@@ -1,16 +1,17 @@
+use mathlib.Core.Path.{_∙_}
 use borrow.Author.Needs.{needs}
 use Rattle.reader.proofs.Ways.{step-refused, step-keeps, step-opens, step-fields, step-done, done-keeps, step-rises, step-within, step-readable, step-room, step-reads, puts-group}
 use Rattle.reader.proofs.decode_group_lent.Statement.{statement}
 use Rattle.reader.proofs.decode_group_lent.Tie as tie
 
 returns : tie.Need-returns
-returns c = (search step-refused, (search step-keeps, search needs))
+returns c = (c .refused .ensures ∙ search step-refused, (search step-keeps, search needs))
 
 read-fields-requires : tie.Need-read-fields-requires
 read-fields-requires c κs = search step-fields
 
 returns-2 : tie.Need-returns-2
-returns-2 c = (search step-done, (search done-keeps, search needs))
+returns-2 c = (c .of .ensures ∙ search step-done, (search done-keeps, search needs))
 
 format-of-requires : tie.Need-format-of-requires
 format-of-requires c κs = (search step-opens, search needs)
@@ -39,7 +40,7 @@ write-group-requires : tie.Need-write-group-requires
 write-group-requires c κs = (search step-readable, search needs, search step-room)
 
 returns-3 : tie.Need-returns-3
-returns-3 c = (search step-reads, (search puts-group, search needs))
+returns-3 c = (c .of2 .ensures ∙ search step-reads, (search puts-group, search needs))
 
 pub decode-group-lent-spec : {M : Type 1} → statement M
 decode-group-lent-spec =
@@ -48,11 +49,13 @@ decode-group-lent-spec =
     (λ c κs. search needs)
     (λ c κs. search needs)
     (λ c. search needs)
+    (λ c κs. search needs)
     (λ c. search needs)
     (λ c. search needs)
     returns
     (λ c. search needs)
     read-fields-requires
+    (λ c κs. search needs)
     (λ c κs. search needs)
     (λ c. search needs)
     (λ c. search needs)
@@ -67,6 +70,7 @@ decode-group-lent-spec =
     part-write-group-end
     write-group-requires
     (λ c. search needs)
+    (λ c κs. search needs)
     (λ c κs. search needs)
     (λ c. search needs)
     (λ c. search needs)
