@@ -1,4 +1,5 @@
 // Packed values, least significant bit first: bits.rs of the Rust.
+use format::Depth;
 use read_bytes::read_u32_le;
 ghost use mathlib.Core.Path.{_≡_};
 ghost use Prim.Native.Nat.{ℕ, _+_, _*_, _<_, _≤_, _^_};
@@ -114,7 +115,7 @@ pub fn packed_values(run: &[u8], bits: u32) -> [i32; 512]
     let mut out = [0i32; 512];
     let mut cursor = Cursor::start();
     let mut k: usize = 0;
-    while k < 512 {
+    while k < Depth::SAMPLES_PER_BLOCK {
         let n = cursor.next(run, bits);
         let v = n.value;
         out[k] = v;

@@ -2,6 +2,7 @@
 use bits::Cursor;
 use format::Checked;
 use format::Coding;
+use format::Depth;
 use format::Fields;
 use format::Refusal;
 use format::SampleFormat;
@@ -85,7 +86,7 @@ pub fn size_of(r: &[u8], depth: u16) -> usize
     ensures { λ n. ⌜ (n ≡ sizeOf depth (now (r .entry))) × (n ≤ 2064) ⌝ }
 {
     let b = BlockHeader::read(r);
-    16 + 64 * width(coding(depth, b.bits)) as usize
+    Depth::BLOCK_HEADER_SIZE + 64 * width(coding(depth, b.bits)) as usize
 }
 
 // Whether the block's format is not the file's.
@@ -116,7 +117,7 @@ pub fn check_block(h: Fields, format: SampleFormat, c: u32, r: &[u8]) -> Checked
     requires { ⌜ h .depth ≤ 32 ⌝ }
     ensures { λ k. ⌜ k ≡ checkBlock h format c (now (r .entry)) ⌝ }
 {
-    if r.len() < 16 {
+    if r.len() < Depth::BLOCK_HEADER_SIZE {
         return Checked::No(Refusal::TooShort);
     }
     if is_block(r) {} else {
@@ -148,7 +149,7 @@ fn rebuild(base: i32, run: &[u8], bits: u32) -> [i32; 512]
     let mut cursor = Cursor::start();
     let mut x = base;
     let mut k: usize = 0;
-    while k < 512 {
+    while k < Depth::SAMPLES_PER_BLOCK {
         out[k] = x;
         let n = cursor.next(run, bits);
         let d = n.value;
@@ -168,8 +169,8 @@ pub fn read_block(r: &[u8], depth: u16) -> [i32; 512]
     let end = size_of(r, depth);
     let coding = coding(depth, b.bits);
     match coding {
-        Coding::Differences(w) => rebuild(b.base, &r[16..end], w),
-        Coding::Raw(w) => bits::packed_values(&r[16..end], w),
+        Coding::Differences(w) => rebuild(b.base, &r[Depth::BLOCK_HEADER_SIZE..end], w),
+        Coding::Raw(w) => bits::packed_values(&r[Depth::BLOCK_HEADER_SIZE..end], w),
         Coding::Beyond => [0i32; 512],
     }
 }
@@ -179,7 +180,7 @@ pub fn decode_mid_side(format: SampleFormat, a: [[i32; 512]; 2]) -> [[i32; 512];
     ensures { λ r. ⌜ r ≡ leftRight format a ⌝ }
 {
     let mut d = a;
-    for i in 0..512usize {
+    for i in 0..Depth::SAMPLES_PER_BLOCK {
         let m = d[0][i];
         let s = d[1][i];
         d[0][i] = sample::left(format, m, s);

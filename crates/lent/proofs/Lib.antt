@@ -1,4 +1,5 @@
--- what is put into lent samples, as lists; what each container holds; a turn of each loop
+-- what is put into lent samples, as lists; what each container holds; a turn of each loop; that a promise fixes all that is lent
 pub mod Weave
 pub mod Laws
 pub mod Runs
+pub mod Outcome

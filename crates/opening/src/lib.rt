@@ -36,7 +36,7 @@ fn check_first(s: &[u8], h: Fields) -> Checked
 pub fn check_open(s: &[u8]) -> Checked
     ensures { λ r. ⌜ r ≡ checkOpen (now (s .entry)) ⌝ }
 {
-    if s.len() < 120 {
+    if s.len() < Depth::HEADER_SIZE {
         return Checked::No(Refusal::TooShort);
     }
     if header::is_signature(s) {} else {

@@ -1,5 +1,6 @@
 // The samples of a file whose checks have passed.
 use crate::checking::offset_of;
+use format::Depth;
 use format::Fields;
 use format::SampleFormat;
 use lent::Container;
@@ -31,7 +32,7 @@ pub fn write_groups(
     while g < groups {
         let a = offset_of(file, h, g);
         let e = offset_of(file, h, g + 1);
-        let first = 512 * g as usize;
+        let first = Depth::SAMPLES_PER_BLOCK * g as usize;
         let n = group::active(h.frames, g);
         group::write_group(which, words, bytes, &file[a..e], h, format, first, 0, n);
         g += 1;
