@@ -29,8 +29,8 @@ front-samples b =
     let n : length (front b) / 4 ≡ length b / 4 = omega (arith, length-front b) in
     ap (λ (m : ℕ). tab m (λ k. value 32 (num 256 (from (4 * k) 4 (front b))))) n
     ∙ tab-cong (length b / 4) _ _ (λ k l.
-      ap (λ (s : List ℕ). value 32 (num 256 s))
-      (sym (from-within (4 * k) 4 (front b) (drop (length b / 4 * 4) b) (omega (arith, length-front b))) ∙ ap (from (4 * k) 4) (take-append-drop (length b / 4 * 4) b)))
+    ap (λ (s : List ℕ). value 32 (num 256 s))
+    (sym (from-within (4 * k) 4 (front b) (drop (length b / 4 * 4) b) (omega (arith, length-front b))) ∙ ap (from (4 * k) 4) (take-append-drop (length b / 4 * 4) b)))
 
 front-back : (b : List ℕ) → Below 256 b → sampleBytes (samplesFrom b) ≡ front b
 front-back b h =
