@@ -1,13 +1,13 @@
--- The number that a code means, without a branch: half of 2 ^ b is added, at b bits, and taken off.
+-- The number that the lowest b bits mean, without a branch: half of 2 ^ b is added, at b bits, and taken off.
 use Prim.Native.Nat.{ℕ, zero, suc, _+_, _-_, _*_, _%_, _^_, _≤_, _<_}
 use mathlib.Core.Path.{_≡_, refl, sym, ap, ap₂, _∙_}
 use mathlib.Core.Bool.{Bool, true, false, cond}
-use native.Mathlib.Nat.{mod-eq-of-lt, one-mul, lt-of-lt-of-le}
+use native.Mathlib.Nat.{mod-lt, mod-eq-of-lt, mod-add-mod, one-mul, lt-of-lt-of-le}
 use native.Mathlib.Omega.{arith}
 use lib.Arith.{digits-mod}
 use lib.IntN.{ℤ, pos, negsuc, _-ℤ_}
 use lib.Dec.{ltb}
-use lib.Pow.{pow-mono}
+use lib.Pow.{pow-pos, pow-mono}
 use mir.Syntax.{w32, w64}
 use mir.Val.{SFits, toZ, ofZ}
 use mir.ValLaws.{toZ-pos, toZ-ofZ}
@@ -29,10 +29,20 @@ value-32 b c l u h = record { sfits = lt-of-lt-of-le (value-holds b c l h) (pow-
 pub half-most : (b : ℕ) → b ≤ 32 → 2 ^ (b - 1) ≤ 2 ^ 31
 half-most b u = pow-mono {j = 31} (omega arith)
 
-module _ (b c h p : ℕ) (l : 1 ≤ b) (u : b ≤ 32) (small : c < 2 ^ b) (half : h ≡ 2 ^ (b - 1)) (full : p ≡ 2 ^ b) where
+module _ (b raw h p : ℕ) (l : 1 ≤ b) (u : b ≤ 32) (half : h ≡ 2 ^ (b - 1)) (full : p ≡ 2 ^ b) where
+  -- the lowest b bits
+  abbrev c : ℕ
+  c = raw % 2 ^ b
+
   -- with half of 2 ^ b added, at b bits
   abbrev up : ℕ
-  up = (c + h) % p
+  up = (raw + h) % p
+
+  small : c < 2 ^ b
+  small = mod-lt raw (pow-pos b)
+
+  up-is : up ≡ (c + h) % p
+  up-is = rw full (sym (mod-add-mod raw (2 ^ b) h))
 
   two : p ≡ h + h
   two = full ∙ twice b l ∙ ap₂ (λ (x y : ℕ). x + y) (sym half) (sym half)
@@ -41,13 +51,13 @@ module _ (b c h p : ℕ) (l : 1 ≤ b) (u : b ≤ 32) (small : c < 2 ^ b) (half 
   room = rw full (pow-mono {j = 32} u)
 
   up-low : c < h → up ≡ c + h
-  up-low k = mod-eq-of-lt (omega (arith, two))
+  up-low k = up-is ∙ mod-eq-of-lt (omega (arith, two))
 
   up-high : h ≤ c → up ≡ c - h
   up-high k =
       let below : c - h < p = omega (arith, two, small, full) in
       let e : c + h ≡ 1 * p + (c - h) = omega (arith, two, one-mul p) in
-      ap (λ (x : ℕ). x % p) e ∙ digits-mod 1 below
+      up-is ∙ ap (λ (x : ℕ). x % p) e ∙ digits-mod 1 below
 
   pub up-fits : up < 2 ^ 63
   up-fits = by (ltb c h) refl

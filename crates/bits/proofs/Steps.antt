@@ -15,9 +15,9 @@ use Rattle.format.specs.Lists.{from}
 use Rattle.format.specs.Numbers.{num, numAt, value, Below}
 use Rattle.laws.proofs.Digits.{pow-mul, num-drop}
 use Rattle.laws.proofs.Each.{each-drop}
-use Rattle.bits.specs.Place.{bitsAt, Held, Valid, Room, Filled, Took, Read, taken, place, origin}
+use Rattle.bits.specs.Place.{bitsAt, Held, Valid, Filled, Read, taken, place, origin}
 use Rattle.bits.specs.declared.Cursor.{Cursor}
-use Rattle.bits.specs.declared.Taken.{Taken}
+use Rattle.bits.specs.declared.Next.{Next}
 use Rattle.bits.proofs.Flat.{value-32}
 
 -- ---- powers that fit a machine word
@@ -26,9 +26,6 @@ one-shl k h = ap (λ (x : ℕ). x % 2 ^ 64) (one-mul (2 ^ k)) ∙ mod-eq-of-lt (
 
 pub pow-positive : (p w : ℕ) → p ≡ 2 ^ w → 0 < p
 pow-positive p w e = rw e (pow-pos w)
-
-pub mod-32 : (a p w : ℕ) → p ≡ 2 ^ w → w ≤ 32 → a % p < 2 ^ 32
-mod-32 a p w e h = rw e (lt-of-lt-of-le (mod-lt a (pow-pos w)) (pow-mono {j = 32} h))
 
 -- ---- a word as bits
 num-low : (s : List ℕ) → Below 256 s → (n : ℕ) → num 256 s % 256 ^ n ≡ num 256 (take n s)
@@ -106,11 +103,11 @@ module _ (s : List ℕ) (c : Cursor) (w : ℕ) (bytes : (i : ℕ) → Fits w8 (g
   fills = record { holds = record { within = omega (arith, h .within); held = more-held }; more = refl; on = refl }
 
 -- w bits off what is held
-takes : (s : List ℕ) (c : Cursor) (w : ℕ) → Held s c → w ≤ c .have → c .have < w + 32 → c .at % 4 ≡ 0 → Took s (place c) w (taken c w)
+takes : (s : List ℕ) (c : Cursor) (w : ℕ) → Held s c → w ≤ c .have → c .have < w + 32 → c .at % 4 ≡ 0 → Read s (place c) w (taken c w)
 takes s c w h l m a =
     let e : place c + w ≡ c .at * 8 - (c .have - w) = omega (arith, h .within) in
     record {
-      code = ap (λ (x : ℕ). x % 2 ^ w) (h .held) ∙ bits-low (num 256 s) (place c) (c .have) w l;
+      means = ap (λ (x : ℕ). value w (x % 2 ^ w)) (h .held) ∙ ap (value w) (bits-low (num 256 s) (place c) (c .have) w l);
       valid = record {
         holds = record {
           within = omega (arith, h .within);
@@ -122,24 +119,26 @@ takes s c w h l m a =
       moved = omega (arith, h .within);
     }
 
--- the code that is taken, with or without a word more first
-module _ (s : List ℕ) (c : Cursor) (w : ℕ) (t : Taken) (v : Valid s c) where
-  pub taken-held : w ≤ c .have → t ≡ taken c w → Took s (place c) w t
-  taken-held l e = rw e (takes s c w (v .holds) l (omega (arith, v .small)) (v .whole))
+-- what is held fits 63 bits
+held-63 : (s : List ℕ) (c : Cursor) → Held s c → c .have < 64 → c .acc < 2 ^ 63
+held-63 s c h l = rw (h .held) (lt-of-lt-of-le (bits-lt (num 256 s) (place c) (c .have)) (pow-mono {j = 63} (omega arith)))
 
-  pub taken-filled : (f : Cursor) → c .have < w → w ≤ 32 → Filled s c f → t ≡ taken f w → Took s (place c) w t
-  taken-filled f l u m e =
+pub valid-63 : (s : List ℕ) (c : Cursor) → Valid s c → c .acc < 2 ^ 63
+valid-63 s c v = held-63 s c (v .holds) (omega (arith, v .small))
+
+pub filled-63 : (s : List ℕ) (c f : Cursor) → Valid s c → Filled s c f → f .acc < 2 ^ 63
+filled-63 s c f v m = held-63 s f (m .holds) (omega (arith, m .more, v .small))
+
+pub taken-is : (c : Cursor) (w : ℕ) (v : ℤ) → 1 ≤ w → w ≤ 32 → v ≡ value w (c .acc % 2 ^ w)
+    → _≡_ {A = Next} (record { value = toZ w32 (ofZ w32 v); cursor = record { acc = c .acc / 2 ^ w; have = c .have - w; at = c .at } }) (taken c w)
+taken-is c w v l u e = rw (e, toZ-ofZ w32 _ (value-32 w (c .acc % 2 ^ w) l u (mod-lt (c .acc) (pow-pos w))))
+
+-- the value that is read, with or without a word more first
+module _ (s : List ℕ) (c : Cursor) (w : ℕ) (n : Next) (v : Valid s c) where
+  pub read-held : w ≤ c .have → n ≡ taken c w → Read s (place c) w n
+  read-held l e = rw e (takes s c w (v .holds) l (omega (arith, v .small)) (v .whole))
+
+  pub read-filled : (f : Cursor) → c .have < w → w ≤ 32 → Filled s c f → n ≡ taken f w → Read s (place c) w n
+  read-filled f l u m e =
       let same : place f ≡ place c = omega (arith, m .more, m .on) in
       rw (e, ← same) (takes s f w (m .holds) (omega (arith, m .more)) (omega (arith, m .more)) (omega (arith, m .on, v .whole)))
-
--- and the number that it means
-pub code-lt : (s : List ℕ) (p w : ℕ) (t : Taken) → Took s p w t → t .code < 2 ^ w
-code-lt s p w t k = rw (k .code) (bits-lt (num 256 s) p w)
-
-pub means-value : (s : List ℕ) (p w : ℕ) (t : Taken) (v : ℤ) → Room s p w → Took s p w t → v ≡ value w (t .code) → Read s p w (record { value = toZ w32 (ofZ w32 v); cursor = t .cursor })
-means-value s p w t v r k e =
-    record {
-      means = ap (λ (x : ℤ). toZ w32 (ofZ w32 x)) e ∙ toZ-ofZ w32 (value w (t .code)) (value-32 w (t .code) (r .low) (r .high) (code-lt s p w t k)) ∙ ap (value w) (k .code);
-      valid = k .valid;
-      moved = k .moved;
-    }

@@ -5,7 +5,6 @@ use mathlib.Core.List.{List}
 use lib.ListN.{length}
 use Rattle.format.specs.Numbers.{num, value}
 use Rattle.bits.specs.declared.Cursor.{Cursor}
-use Rattle.bits.specs.declared.Taken.{Taken}
 use Rattle.bits.specs.declared.Next.{Next}
 
 -- the w bits of n from the bit p on
@@ -38,9 +37,9 @@ pub record Room (s : List ℕ) (p w : ℕ) : Type 0 where
   pub words : length s % 4 ≡ 0
   pub fits : p + w ≤ length s * 8
 
--- w bits split off what is held
-abbrev pub taken : Cursor → ℕ → Taken
-taken c w = record { code = c .acc % 2 ^ w; cursor = record { acc = c .acc / 2 ^ w; have = c .have - w; at = c .at } }
+-- the value of the lowest w bits of what is held, and the rest
+abbrev pub taken : Cursor → ℕ → Next
+taken c w = record { value = value w (c .acc % 2 ^ w); cursor = record { acc = c .acc / 2 ^ w; have = c .have - w; at = c .at } }
 
 -- the cursor after a word more
 pub record Filled (s : List ℕ) (c r : Cursor) : Type 0 where
@@ -48,13 +47,7 @@ pub record Filled (s : List ℕ) (c r : Cursor) : Type 0 where
   pub more : r .have ≡ c .have + 32
   pub on : r .at ≡ c .at + 4
 
--- what is taken at bit p: the w bits there, and the cursor past them
-pub record Took (s : List ℕ) (p w : ℕ) (r : Taken) : Type 0 where
-  pub code : r .code ≡ bitsAt (num 256 s) p w
-  pub valid : Valid s (r .cursor)
-  pub moved : place (r .cursor) ≡ p + w
-
--- and the value that they mean
+-- what is read at bit p: the value of the w bits there, and the cursor past them
 pub record Read (s : List ℕ) (p w : ℕ) (r : Next) : Type 0 where
   pub means : r .value ≡ value w (bitsAt (num 256 s) p w)
   pub valid : Valid s (r .cursor)

@@ -2,22 +2,17 @@
 use format::Depth;
 use read_bytes::read_u32_le;
 ghost use mathlib.Core.Path.{_≡_};
-ghost use Prim.Native.Nat.{ℕ, _+_, _*_, _<_, _≤_, _^_};
+ghost use Prim.Native.Nat.{_+_, _*_, _%_, _<_, _≤_, _^_};
 ghost use lib.ListN.{length};
 ghost use Rattle.format.specs.Numbers.{value};
 ghost use Rattle.format.specs.Packed.{values};
-ghost use Rattle.bits.specs.Place.{Held, Valid, Room, Took, Read, Filled, taken, place, origin};
+ghost use Rattle.bits.specs.Place.{Held, Valid, Room, Read, Filled, taken, place, origin};
 
 // A place in a packed run: the bits before byte `at` that are not read yet.
 pub struct Cursor {
     pub acc: u64,
     pub have: u32,
     pub at: usize,
-}
-
-pub struct Taken {
-    pub code: u32,
-    pub cursor: Cursor,
 }
 
 pub struct Next {
@@ -32,13 +27,13 @@ fn pow2(k: u32) -> u64
     1 << k
 }
 
-// The number that a code of `bits` bits means.
-pub fn sign_extend(raw: u32, bits: u32) -> i32
-    requires { ⌜ (1 ≤ bits) × (bits ≤ 32) × (raw < 2 ^ bits) ⌝ }
-    ensures { λ r. ⌜ r ≡ value bits raw ⌝ }
+// The number that the lowest `bits` bits of raw mean.
+pub fn sign_extend(raw: u64, bits: u32) -> i32
+    requires { ⌜ (1 ≤ bits) × (bits ≤ 32) × (raw < 2 ^ 63) ⌝ }
+    ensures { λ r. ⌜ r ≡ value bits (raw % 2 ^ bits) ⌝ }
 {
     let half = pow2(bits - 1);
-    let up = (raw as u64 + half) % pow2(bits);
+    let up = (raw + half) % pow2(bits);
     (up as i64 - half as i64) as i32
 }
 
@@ -53,13 +48,13 @@ impl Cursor {
         }
     }
 
-    // The lowest bits of what is held, and the rest.
-    fn taken(self, bits: u32) -> Taken
-        requires { ⌜ (bits ≤ 32) × (bits ≤ self .have) ⌝ }
+    // The value of the lowest bits of what is held, and the rest.
+    fn taken(self, bits: u32) -> Next
+        requires { ⌜ (1 ≤ bits) × (bits ≤ 32) × (bits ≤ self .have) × (self .acc < 2 ^ 63) ⌝ }
         ensures { λ r. ⌜ r ≡ taken self bits ⌝ }
     {
-        Taken {
-            code: (self.acc % pow2(bits)) as u32,
+        Next {
+            value: sign_extend(self.acc, bits),
             cursor: Cursor {
                 acc: self.acc >> bits,
                 have: self.have - bits,
@@ -81,29 +76,16 @@ impl Cursor {
         }
     }
 
-    fn code(self, run: &[u8], bits: u32) -> Taken
-        requires { ⌜ Valid (now run) self ⌝ }
-        requires { ⌜ Room (now run) (place self) bits ⌝ }
-        ensures { λ r. ⌜ Took (now (run .entry)) (place self) bits r ⌝ }
-    {
-        if self.have < bits {
-            return self.filled(run).taken(bits);
-        }
-        self.taken(bits)
-    }
-
     // The value at the cursor's place, and the cursor after it.
     pub fn next(self, run: &[u8], bits: u32) -> Next
         requires { ⌜ Valid (now run) self ⌝ }
         requires { ⌜ Room (now run) (place self) bits ⌝ }
         ensures { λ r. ⌜ Read (now (run .entry)) (place self) bits r ⌝ }
     {
-        let t = self.code(run, bits);
-        let cursor = t.cursor;
-        Next {
-            value: sign_extend(t.code, bits),
-            cursor: cursor,
+        if self.have < bits {
+            return self.filled(run).taken(bits);
         }
+        self.taken(bits)
     }
 }
 

@@ -1,8 +1,9 @@
 -- A block's header as it is read, and the block's length.
-use Prim.Native.Nat.{ℕ, zero, suc, _+_, _*_, _^_, _<_, _≤_}
+use Prim.Native.Nat.{ℕ, zero, suc, _+_, _*_, _%_, _^_, _<_, _≤_}
 use mathlib.Core.Path.{_≡_, refl, sym, ap, _∙_, subst}
 use mathlib.Core.Bool.{Bool, true, false, cond}
 use mathlib.Core.List.{List}
+use native.Mathlib.Nat.{mod-eq-of-lt}
 use native.Mathlib.Omega.{arith}
 use lib.IntN.{ℤ, pos, negsuc}
 use lib.Signed.{mag}
@@ -21,7 +22,10 @@ use Rattle.block.specs.Read.{blockHeader}
 use Rattle.block.specs.declared.BlockHeader.{BlockHeader}
 
 -- a word of 16 bits, as 32 bits give it
-module _ (t : ℤ) (m : ℕ) (small : m < 2 ^ 16) (e : t ≡ value 16 m) where
+module _ (t : ℤ) (m : ℕ) (small : m < 2 ^ 16) (given : t ≡ value 16 (m % 2 ^ 16)) where
+  e : t ≡ value 16 m
+  e = given ∙ ap (value 16) (mod-eq-of-lt small)
+
   short : mag t < 2 ^ 15
   short = subst (λ (z : ℤ). mag z < 2 ^ 15) (sym e) (value-holds 16 m (omega arith) small)
 
@@ -34,10 +38,12 @@ module _ (t : ℤ) (m : ℕ) (small : m < 2 ^ 16) (e : t ≡ value 16 m) where
   pub word-is : toZ w16 (ofZ w16 (toZ w32 (ofZ w32 t))) ≡ value 16 m
   word-is = rw wide (toZ-ofZ w16 t (record { sfits = short }) ∙ e)
 
-pub header-is : (s : List ℕ) (z t : ℤ) (n m f : ℕ) → mag z < 2 ^ 31 → z ≡ value 32 n → n ≡ numAt 4 4 s → m < 2 ^ 16 → t ≡ value 16 m → m ≡ numAt 8 2 s → f ≡ numAt 10 2 s
+pub header-is : (s : List ℕ) (z t : ℤ) (n m f : ℕ) → mag z < 2 ^ 31 → z ≡ value 32 (n % 2 ^ 32) → n < 2 ^ 32 → n ≡ numAt 4 4 s → m < 2 ^ 16 → t ≡ value 16 (m % 2 ^ 16) → m ≡ numAt 8 2 s → f ≡ numAt 10 2 s
     → _≡_ {A = BlockHeader} (record { base = toZ w32 (ofZ w32 z); bits = toZ w16 (ofZ w16 (toZ w32 (ofZ w32 t))); flags = f }) (blockHeader s)
 unfolding blockHeader baseOf bitsOf
-header-is s z t n m f fits a b small c d e = rw (toZ-ofZ w32 z (record { sfits = fits }), word-is t m small c, a, b, d, e)
+header-is s z t n m f fits a l b small c d e =
+    let whole : z ≡ value 32 n = a ∙ ap (value 32) (mod-eq-of-lt l) in
+    rw (toZ-ofZ w32 z (record { sfits = fits }), word-is t m small c, whole, b, d, e)
 
 -- ---- the length
 pub width-most : (depth : ℕ) (z : ℤ) → depth ≤ 32 → widthOf (coding depth z) ≤ 32

@@ -10,11 +10,11 @@ use read_bytes::read_u16_le;
 use read_bytes::read_u32_le;
 ghost use mathlib.Core.Path.{_≡_};
 ghost use mathlib.Core.Bool.{cond, not, _&&_};
-ghost use Prim.Native.Nat.{ℕ, _+_, _*_, _/_, _%_, _<_, _≤_};
+ghost use Prim.Native.Nat.{_+_, _*_, _/_, _%_, _<_, _≤_};
 ghost use lib.Dec.{eqb};
 ghost use lib.ListN.{length};
 ghost use Rattle.format.specs.Packed.{coding, widthOf, values, rebuilt};
-ghost use Rattle.format.specs.Blocks.{isBlock, midBit, sizeOf, samplesOf};
+ghost use Rattle.format.specs.Blocks.{isBlock, sizeOf, samplesOf};
 ghost use Rattle.format.specs.MidSide.{leftRight};
 ghost use Rattle.format.specs.Decoding.{isFloat, checkBlock};
 ghost use Rattle.block.specs.Read.{blockHeader, Whole};
@@ -39,8 +39,8 @@ impl BlockHeader {
         ensures { λ b. ⌜ b ≡ blockHeader (now (r .entry)) ⌝ }
     {
         BlockHeader {
-            base: bits::sign_extend(read_u32_le(r, 4), 32),
-            bits: bits::sign_extend(read_u16_le(r, 8) as u32, 16) as i16,
+            base: bits::sign_extend(read_u32_le(r, 4) as u64, 32),
+            bits: bits::sign_extend(read_u16_le(r, 8) as u64, 16) as i16,
             flags: read_u16_le(r, 10),
         }
     }
@@ -171,6 +171,7 @@ pub fn read_block(r: &[u8], depth: u16) -> [i32; 512]
     match coding {
         Coding::Differences(w) => rebuild(b.base, &r[Depth::BLOCK_HEADER_SIZE..end], w),
         Coding::Raw(w) => bits::packed_values(&r[Depth::BLOCK_HEADER_SIZE..end], w),
+        // no such block is whole
         Coding::Beyond => [0i32; 512],
     }
 }

@@ -15,7 +15,7 @@ use Rattle.format.specs.declared.settings.SampleFormat.the-variants.{Pcm
 unfoldable pub floatOf : ℤ → Float
 floatOf z = Ieee.ofBits binary32 (codeOf 32 z)
 
--- a result, rounded once, as a sample; a NaN is 0x7FC00000
+-- the 32 bits of a result; of a NaN 0x7FC00000
 unfoldable pub patternOf : Float → ℕ
 patternOf x = cond (Ieee.isNan x) 0x7FC0_0000 (Ieee.toBits binary32 x)
 

@@ -6,7 +6,7 @@ use native.Mathlib.Omega.{arith}
 use lib.ListN.{length, length-drop}
 use borrow.Author.Tests.{eq-eqb, ne-eqb}
 use Rattle.format.specs.Blocks.{sizeOf, rest}
-use Rattle.format.specs.Refusals.{refuse, _then_, inOrder}
+use Rattle.format.specs.Refusals.{refuse, inOrder, _then_}
 use Rattle.format.specs.Decoding.{checkBlock, checkGroup}
 use Rattle.format.specs.declared.refusals.Refusal.{Refusal}
 use Rattle.format.specs.declared.refusals.Refusal.the-variants.{BytesLeft}

@@ -4,7 +4,7 @@ use mathlib.Core.Path.{_≡_, ap, _∙_}
 use mathlib.Core.List.{List}
 use native.Mathlib.Omega.{arith}
 use lib.ListN.{length, take, drop, length-drop}
-use lib.Seq.{take-all}
+use borrow.Rule.Slice.PartAt.{part-to-end}
 use Rattle.format.specs.Blocks.{sizeOf, rest}
 use Rattle.laws.proofs.Reading.{rest-none, rest-more}
 
@@ -13,7 +13,7 @@ abbrev pub part : ℕ → List ℕ → List ℕ
 part at bs = take (length bs - at) (drop at bs)
 
 pub part-is : (at : ℕ) (bs : List ℕ) → part at bs ≡ drop at bs
-part-is at bs = take-all (length bs - at) (drop at bs) (omega (arith, length-drop at bs))
+part-is at bs = part-to-end bs at
 
 -- channel c's block begins at that place
 pub record Begins (depth : ℕ) (bs : List ℕ) (c at : ℕ) : Type 0 where

@@ -11,7 +11,7 @@ use Rattle.format.specs.Refusals.{refuse, _then_}
 use Rattle.format.specs.declared.refusals.Refusal.{Refusal}
 use Rattle.format.specs.declared.refusals.Checked.{Checked}
 use Rattle.format.specs.declared.refusals.Checked.the-variants.{Fine, No}
-use Rattle.laws.proofs.Tests.{never}
+use Rattle.laws.proofs.Tests.{never, and-no}
 use Rattle.laws.proofs.Checks.{found-below}
 
 -- ---- checks
@@ -46,12 +46,8 @@ not-no b h = rw h
 pub and-both : (a b : Bool) → a ≡ true → b ≡ true → (a && b) ≡ true
 and-both a b p q = simp (p, q)
 
-pub and-left : (a b : Bool) → a ≡ false → (a && b) ≡ false
-and-left a b p = simp p
-
-pub and-right : (a b : Bool) → b ≡ false → (a && b) ≡ false
-and-right true b q = q
-and-right false b q = refl
+pub first-no : (a b : Bool) → a ≡ false → (a && b) ≡ false
+first-no a b p = simp p
 
 -- a test that a callee answered: x is the callee's result, and y what its contract says that it is
 pub flag-yes : (x y : Bool) → x ≡ y → x ≡ true → y ≡ true
@@ -69,17 +65,17 @@ other-eqb x y n e h = ne-eqb y n (λ q. h (e ∙ q))
 
 pub ruleset flags = (flag-yes, flag-no, same-eqb, other-eqb)
 
-pub ruleset chain = (stop, stop-then, pass, pass-then, lt-ltb, le-ltb, eq-eqb, ne-eqb, not-yes, not-no, and-both, and-left, and-right, arith)
+pub ruleset chain = (stop, stop-then, pass, pass-then, lt-ltb, le-ltb, eq-eqb, ne-eqb, not-yes, not-no, and-both, first-no, and-no, arith)
 
 -- ---- the value of an either-or
 
-pub or-left : (a b : Bool) → a ≡ true → true ≡ (a || b)
-or-left a b p = rw p
+pub first-yes : (a b : Bool) → a ≡ true → true ≡ (a || b)
+first-yes a b p = rw p
 
-pub or-right : (a b x : Bool) → a ≡ false → x ≡ b → x ≡ (a || b)
-or-right a b x p e = rw p e
+pub second-says : (a b x : Bool) → a ≡ false → x ≡ b → x ≡ (a || b)
+second-says a b x p e = rw p e
 
-pub ruleset either = (or-left, or-right, lt-ltb, le-ltb, eq-eqb, ne-eqb, arith)
+pub ruleset either = (first-yes, second-says, lt-ltb, le-ltb, eq-eqb, ne-eqb, arith)
 
 -- ---- a loop over tests: none of the first k holds
 

@@ -8,7 +8,7 @@ use read_bytes::read_u16_le;
 use read_bytes::read_u32_le;
 use read_bytes::read_u64_le;
 ghost use mathlib.Core.Path.{_≡_};
-ghost use Prim.Native.Nat.{ℕ, _+_, _*_, _<_, _≤_};
+ghost use Prim.Native.Nat.{_+_, _*_, _<_, _≤_};
 ghost use lib.ListN.{length};
 ghost use Rattle.format.specs.Lists.{anyBelow};
 ghost use Rattle.format.specs.Header.{isSignature, fieldsOf, groupsOf, entry};

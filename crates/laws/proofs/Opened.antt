@@ -1,15 +1,15 @@
 -- What holds of a file that opens.
 use Prim.Native.Nat.{ℕ, _+_, _-_, _*_, _≤_, _<_}
-use mathlib.Core.Path.{_≡_, refl, sym, subst}
-use mathlib.Core.Bool.{Bool, true, false, not, _&&_, _||_}
+use mathlib.Core.Path.{_≡_, subst}
+use mathlib.Core.Bool.{Bool, true, false, _||_}
 use mathlib.Core.List.{List}
 use native.Mathlib.Omega.{arith}
 use lib.ListN.{length}
-use lib.Dec.{eqb, ltb}
-use borrow.Author.Tests.{ltb-false, eqb-true, eqb-false, not-false, ne-eqb}
+use lib.Dec.{ltb}
+use borrow.Author.Tests.{ltb-false, eqb-true, eqb-false, not-false}
 use Rattle.format.specs.Header.{fieldsOf, groupsOf, entry}
 use Rattle.format.specs.Units.{bitsIn, isDepth, depthOf}
-use Rattle.format.specs.Opening.{checkFields, checkOffsets, badEntry, checkTable, checkFirst, checkOpen}
+use Rattle.format.specs.Opening.{checkFields, checkOffsets, badEntry, checkTable, checkOpen}
 use Rattle.format.specs.declared.units.Depth.{Depth}
 use Rattle.format.specs.declared.units.Depth.the-variants.{Eight, Sixteen, TwentyFour, ThirtyTwo}
 use Rattle.format.specs.declared.refusals.Checked.the-variants.{Fine}
@@ -42,10 +42,6 @@ module _ (h : Fields) (fine : checkFields h ≡ Fine) where
 
 -- ---- 13 to 15, and 1
 module _ (h : Fields) (n : ℕ) (fine : checkOffsets h n ≡ Fine) where
-  pub table-past : 120 ≤ h .table
-  unfolding checkOffsets
-  table-past = ltb-false (h .table) 120 (passed _ _ (first-fine _ _ fine))
-
   pub data-past : h .table + 4 * (groupsOf (h .frames) + 1) ≡ h .start
   unfolding checkOffsets
   data-past =

@@ -1,27 +1,20 @@
 -- What code reads and what a loop over checks says: the laws that functions cite.
-use Prim.Native.Nat.{ℕ, zero, suc, _+_, _-_, _*_, _^_, _≤_, _<_}
+use Prim.Native.Nat.{ℕ, zero, suc, _+_, _*_, _^_, _≤_, _<_}
 use mathlib.Core.Path.{_≡_, refl, sym, ap, _∙_}
-use mathlib.Core.Bool.{Bool, true, false, cond}
 use mathlib.Core.List.{List}
 use native.Mathlib.Nat.{mul-right-comm, pow-suc}
 use native.Mathlib.Omega.{arith}
 use native.Mathlib.Numerals.{add-one}
 use lib.ListN.{length, getD, drop}
 use lib.Seq.{drop-cons, drop-drop}
-use lib.IntN.{ℤ, pos}
-use lib.Dec.{ltb}
-use borrow.Author.Tests.{le-leb, lt-leb}
 use Rattle.format.specs.Lists.{from}
-use Rattle.format.specs.Numbers.{num, numAt, value}
-use Rattle.format.specs.Packed.{coding, widthOf}
-use Rattle.format.specs.declared.packed.Coding.the-variants.{Raw, Beyond}
+use Rattle.format.specs.Numbers.{num, numAt}
 use Rattle.format.specs.Blocks.{sizeOf, rest}
 use Rattle.format.specs.Refusals.{_then_, inOrder}
 use Rattle.format.specs.declared.refusals.Refusal.{Refusal}
 use Rattle.format.specs.declared.refusals.Checked.{Checked}
 use Rattle.format.specs.declared.refusals.Checked.the-variants.{Fine, No}
 use Rattle.laws.proofs.Checks.{order-refuses}
-use Rattle.laws.proofs.Signs.{value-pos, value-neg}
 
 -- ---- little-endian numbers, byte by byte
 pub number-more : (i n : ℕ) (s : List ℕ) → i < length s → numAt i (suc n) s ≡ numAt (i + 1) n s * 256 + getD s i 0
@@ -66,40 +59,6 @@ numbers-meet (suc m) n i s h =
 
 pub number-8 : (i : ℕ) (s : List ℕ) → i + 4 ≤ length s → numAt i 8 s ≡ numAt i 4 s + 4294967296 * numAt (i + 4) 4 s
 number-8 i s h = numbers-meet 4 4 i s h
-
--- ---- the width that a bits word says
-module _ (depth w : ℕ) where
-  pub width-zero : w ≡ 0 → depth ≡ widthOf (coding depth (value 16 w))
-  unfolding coding widthOf
-  width-zero e = rw e
-
-  pub width-differences : 1 ≤ w → w ≤ 32 → w ≡ widthOf (coding depth (value 16 w))
-  unfolding coding widthOf
-  width-differences l u = sym (ap (λ (z : ℤ). widthOf (coding depth z)) (value-pos 16 w (omega arith)) ∙ by w l u)
-    where
-      by : (w : ℕ) → 1 ≤ w → w ≤ 32 → widthOf (coding depth (pos w)) ≡ w
-      by zero l u = absurd (omega arith)
-      by (suc n) l u = rw (le-leb (suc n) 32 u)
-
-  pub width-raw : 65504 ≤ w → w ≤ 65535 → 65536 - w ≡ widthOf (coding depth (value 16 w))
-  unfolding coding widthOf
-  width-raw l u =
-      let e : suc (65536 - suc w) ≡ 65536 - w = omega arith in
-      sym (ap (λ (z : ℤ). widthOf (coding depth z)) (value-neg 16 w (omega arith)) ∙ ap (λ (b : Bool). widthOf (cond b (Raw (suc (65536 - suc w))) Beyond)) (le-leb (suc (65536 - suc w)) 32 (omega arith)) ∙ e)
-
-  pub width-beyond : 33 ≤ w → w < 65504 → 0 ≡ widthOf (coding depth (value 16 w))
-  unfolding coding widthOf
-  width-beyond l u = sym (by (ltb w 32768) refl)
-    where
-      pos-by : (w : ℕ) → 33 ≤ w → widthOf (coding depth (pos w)) ≡ 0
-      pos-by zero l = absurd (omega arith)
-      pos-by (suc n) l = rw (lt-leb (suc n) 32 l)
-
-      by : (t : Bool) → ltb w 32768 ≡ t → widthOf (coding depth (value 16 w)) ≡ 0
-      by true e = ap (λ (z : ℤ). widthOf (coding depth z)) (value-pos 16 w (borrow.Author.Tests.ltb-true w 32768 e)) ∙ pos-by w l
-      by false e =
-          ap (λ (z : ℤ). widthOf (coding depth z)) (value-neg 16 w (borrow.Author.Tests.ltb-false w 32768 e))
-          ∙ ap (λ (b : Bool). widthOf (cond b (Raw (suc (65536 - suc w))) Beyond)) (lt-leb (suc (65536 - suc w)) 32 (omega arith))
 
 -- ---- a loop over checks: c have passed, and the next refuses or passes
 pub order-stops : (check : ℕ → Checked) (c n : ℕ) (r : Refusal) (k : Checked) → c < n → inOrder check c ≡ Fine → check c ≡ No r → No r ≡ (inOrder check n then k)

@@ -14,7 +14,7 @@ use lib.Seq.{ext-getD, getD-set-same, getD-set-other, getD-append-add, getD-take
 use Rattle.format.specs.Lists.{joined, from}
 use Rattle.format.specs.Decoding.{woven}
 use Rattle.laws.proofs.Parts.{length-even, joined-cong, around, length-from, below-suc}
-use Rattle.lent.specs.Lent.{placed, strided, wovenFrom, channelsPut}
+use Rattle.lent.specs.Lent.{placed, strided, wovenFrom}
 
 -- sample k of a run
 abbrev at : List ℤ → ℕ → ℤ
@@ -123,6 +123,11 @@ positive n zero h = absurd (omega (arith, mul-zero n))
 positive n (suc C) h = omega arith
 
 -- ---- channel after channel
+-- the channels 0, 1, .. one after another, each put where it lies in the n frames of C channels from `first` on
+unfoldable pub channelsPut : ℕ → ℕ → ℕ → ℕ → List (List ℤ) → ℕ → List ℤ → List ℤ
+channelsPut first skip n C chans zero s = s
+channelsPut first skip n C chans (suc c) s = strided (channelsPut first skip n C chans c s) (first * C + c) C (from skip n (getD chans c []))
+
 module _ (first skip n C : ℕ) (chans : List (List ℤ)) where
   pub length-put : (c : ℕ) (s : List ℤ) → length (channelsPut first skip n C chans c s) ≡ length s
   unfolding channelsPut

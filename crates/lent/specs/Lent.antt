@@ -1,5 +1,5 @@
 -- Samples that are lent as numbers or as bytes, four to a sample.
-use Prim.Native.Nat.{ℕ, zero, suc, _+_, _*_, _/_}
+use Prim.Native.Nat.{ℕ, _+_, _*_, _/_}
 use mathlib.Core.List.{List, [], _∷_, _++_, map}
 use lib.ListN.{length, getD, take, drop, set}
 use lib.IntN.{ℤ, pos}
@@ -34,8 +34,3 @@ strided s p step (x ∷ xs) = strided (set s p x) (p + step) step xs
 -- the n frames of the channels from the frame `skip` on, interleaved
 unfoldable pub wovenFrom : ℕ → ℕ → List (List ℤ) → List ℤ
 wovenFrom skip n chans = joined (λ i. map (λ (ch : List ℤ). getD ch (skip + i) (pos 0)) chans) n
-
--- the channels 0, 1, .. one after another, each put where it lies in the n frames of C channels from `first` on
-unfoldable pub channelsPut : ℕ → ℕ → ℕ → ℕ → List (List ℤ) → ℕ → List ℤ → List ℤ
-channelsPut first skip n C chans zero s = s
-channelsPut first skip n C chans (suc c) s = strided (channelsPut first skip n C chans c s) (first * C + c) C (from skip n (getD chans c []))

@@ -1,6 +1,6 @@
 // Samples lent as numbers, or as bytes, four to a sample: only `count` and `put_sample` look at which.
 ghost use mathlib.Core.Path.{_≡_};
-ghost use Prim.Native.Nat.{ℕ, _+_, _*_, _<_, _≤_};
+ghost use Prim.Native.Nat.{_+_, _*_, _<_, _≤_};
 ghost use lib.ListN.{length, set};
 ghost use lib.Seq.{sets};
 ghost use Rattle.format.specs.Lists.{from};

@@ -21,7 +21,6 @@ use Rattle.format.specs.declared.units.DepthWord.the-variants.{Known, Unknown}
 use Rattle.format.specs.declared.answers.Fields.{Fields}
 use Rattle.format.specs.declared.answers.Header.{Header}
 use Rattle.format.specs.declared.answers.Outcome.the-variants.{Opened, Refused}
-use Rattle.format.specs.declared.answers.Answer.{Answer}
 use Rattle.laws.proofs.Opened.{data-past, data-within, first-within}
 
 -- ---- the checks in order

@@ -11,7 +11,7 @@ use format::Outcome;
 use format::Refusal;
 use format::SampleFormat;
 ghost use mathlib.Core.Path.{_≡_};
-ghost use Prim.Native.Nat.{ℕ, _+_, _≤_};
+ghost use Prim.Native.Nat.{_+_, _≤_};
 ghost use lib.ListN.{length};
 ghost use Rattle.format.specs.Header.{fieldsOf, groupsOf};
 ghost use Rattle.format.specs.Units.{depthOf};

@@ -20,7 +20,7 @@ use Rattle.format.specs.Blocks.{baseOf, bitsOf, codingOf, sizeOf, decoded, samp
 use Rattle.format.specs.Encoding.{differences, head0}
 use Rattle.format.specs.Reencoding.{newValues, valuesFor, baseFor, newBlock, checkNewBlock}
 use Rattle.format.specs.declared.refusals.Checked.the-variants.{Fine}
-use Rattle.laws.proofs.Lengths.{length-values, length-rebuilt}
+use Rattle.laws.proofs.Lengths.{length-values}
 use Rattle.laws.proofs.Tests.{never}
 use Rattle.laws.proofs.Parts.{length-from, meet}
 use Rattle.laws.proofs.Checks.{pass, _and-then_}

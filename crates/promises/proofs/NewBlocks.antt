@@ -5,7 +5,7 @@ use mathlib.Core.Bool.{Bool, true, false, cond}
 use mathlib.Core.List.{List, [], _∷_, _++_, append-nil, append-assoc}
 use mathlib.Core.Logic.{⊎-elim}
 use native.Mathlib.Omega.{arith}
-use lib.ListN.{length, getD, take, drop, length-append, length-drop, length-map, drop-of-length-le}
+use lib.ListN.{length, getD, take, drop, length-append, length-drop, drop-of-length-le}
 use lib.Seq.{take-at, drop-at, length-take-le}
 use lib.IntN.{ℤ, pos, negsuc, _+ℤ_}
 use lib.Dec.{ltb, leb}
@@ -14,7 +14,7 @@ use mir.Val.{SFits}
 use borrow.Author.Tests.{ltb-true, ltb-false, leb-true, eqb-false, not-false}
 use Rattle.format.specs.Lists.{from, same}
 use Rattle.format.specs.Numbers.{num, numAt, value, codeOf, plus}
-use Rattle.format.specs.Packed.{coding, widthOf, codes, values, packing, rebuilt, isBeyond}
+use Rattle.format.specs.Packed.{coding, widthOf, values, packing, rebuilt, isBeyond}
 use Rattle.format.specs.declared.packed.Coding.{Coding}
 use Rattle.format.specs.declared.packed.Coding.the-variants.{Differences, Raw, Beyond}
 use Rattle.format.specs.Blocks.{blockMark, isBlock, baseOf, bitsOf, codingOf, sizeOf, decoded, samplesOf}
@@ -25,7 +25,7 @@ use Rattle.laws.proofs.Lengths.{length-values, length-rebuilt}
 use Rattle.laws.proofs.Tests.{never}
 use Rattle.laws.proofs.Parts.{below-suc, from-skip, from-within, from-front, from-from, length-from}
 use Rattle.laws.proofs.Checks.{first-fine, others-fine, passed}
-use Rattle.laws.proofs.Digits.{length-codes, length-le, num-le}
+use Rattle.laws.proofs.Digits.{length-le, num-le}
 use Rattle.laws.proofs.Signs.{Holds, AllHold, code-lt, value-code, values-packing, length-packing, every-holds}
 use Rattle.laws.proofs.Wrap.{Fit, difference-back, wrap-is}
 use Rattle.promises.proofs.BlockLaws.{Reads, length-differences}

@@ -6,16 +6,15 @@ use native.Mathlib.Omega.{arith}
 use lib.ListN.{length, take, drop}
 use Rattle.format.specs.Lists.{from}
 use Rattle.format.specs.Header.{fieldsOf, groupsOf, entry, group}
-use Rattle.format.specs.Refusals.{_then_, inOrder}
-use Rattle.format.specs.Opening.{formatOf, checkFields, checkOffsets, checkTable, checkOpen}
-use Rattle.format.specs.Decoding.{checkGroup, checkDecode}
+use Rattle.format.specs.Refusals.{inOrder}
+use Rattle.format.specs.Opening.{checkFields, checkOffsets, checkTable, checkOpen}
+use Rattle.format.specs.Decoding.{checkGroup}
 use Rattle.format.specs.declared.refusals.Refusal.{Refusal}
 use Rattle.format.specs.declared.refusals.Checked.{Checked}
 use Rattle.format.specs.declared.refusals.Checked.the-variants.{Fine, No}
 use Rattle.format.specs.declared.settings.SampleFormat.{SampleFormat}
 use Rattle.format.specs.declared.answers.Fields.{Fields}
 use Rattle.laws.proofs.Checks.{order-refuses}
-use Rattle.laws.proofs.Reading.{order-more}
 use Rattle.laws.proofs.Opened.{some-channels, depth-least, depth-most, data-past, data-within, end-within, entry-rises, opened-fields, opened-offsets, opened-table}
 
 module _ (s : List ℕ) (h : Fields) (opens : checkOpen s ≡ Fine) (reads : h ≡ fieldsOf s) where

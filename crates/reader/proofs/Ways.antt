@@ -11,7 +11,7 @@ use lib.Dec.{ltb}
 use borrow.Author.Tests.{lt-ltb, le-ltb, ltb-false}
 use Rattle.format.specs.Lists.{over}
 use Rattle.format.specs.Header.{fieldsOf, groupsOf, entry, group}
-use Rattle.format.specs.Refusals.{refuse, _then_, inOrder}
+use Rattle.format.specs.Refusals.{refuse, inOrder, _then_}
 use Rattle.format.specs.Opening.{formatOf, checkOpen}
 use Rattle.format.specs.Decoding.{checkGroup, channelsOf, woven, active, groupSamples, checkDecode, decodedOf, checkRoom, decodeOf, decodeInto}
 use Rattle.format.specs.Units.{samplesIn}

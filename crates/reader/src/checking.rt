@@ -5,7 +5,7 @@ use format::Frames;
 use format::Refusal;
 use format::SampleFormat;
 ghost use mathlib.Core.Path.{_≡_};
-ghost use Prim.Native.Nat.{ℕ, _+_, _≤_};
+ghost use Prim.Native.Nat.{_+_, _≤_};
 ghost use Rattle.format.specs.Header.{fieldsOf, groupsOf, entry, group};
 ghost use Rattle.format.specs.Refusals.{inOrder};
 ghost use Rattle.format.specs.Opening.{checkOpen};

@@ -5,7 +5,7 @@ use format::Fields;
 use format::SampleFormat;
 use lent::Container;
 ghost use mathlib.Core.Path.{_≡_};
-ghost use Prim.Native.Nat.{ℕ, _*_, _≤_};
+ghost use Prim.Native.Nat.{_*_, _≤_};
 ghost use lib.ListN.{length};
 ghost use Rattle.format.specs.Lists.{over};
 ghost use Rattle.format.specs.Header.{fieldsOf};

@@ -1,4 +1,4 @@
-// What the programs print.
+// What the programs print of a file that they open or decode.
 mod line;
 mod opened;
 mod room;

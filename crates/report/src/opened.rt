@@ -44,7 +44,7 @@ fn print_answer(answer: Answer) {
             print_refusal(r);
             print(b"\n");
         }
-        _ => {}
+        _ => print(b"no answer\n"),
     }
 }
 

@@ -1,11 +1,15 @@
 use native.Mathlib.Omega.{arith}
 use borrow.Author.Needs.{needs}
 use Rattle.bits.proofs.Flat.{half-most, up-fits, flat-64, flat-32, flat-value}
+use Rattle.bits.proofs.Steps.{pow-positive}
 use Rattle.bits.proofs.sign_extend.Statement.{statement}
 use Rattle.bits.proofs.sign_extend.Tie as tie
 
 add-up : tie.Need-add-up
 add-up c = record { fits = omega (arith, half-most _ (c .before .pre .1), c .pow2 .ensures) }
+
+rem-up : tie.Need-rem-up
+rem-up c = search pow-positive
 
 cast-result : tie.Need-cast-result
 cast-result c = record { sfits = search up-fits }
@@ -30,7 +34,7 @@ sign-extend-spec =
     (λ c κs. search needs)
     add-up
     (λ c κs. search needs)
-    (λ c. search needs)
+    rem-up
     cast-result
     cast-result-2
     sub-result

@@ -4,8 +4,6 @@ use Rattle.format.specs.Header.{groupsOf}
 use Rattle.format.specs.Decoding.{active}
 use Rattle.group.proofs.active.Statement.{statement}
 use Rattle.group.proofs.active.Tie as tie
-use Rattle.group.proofs.active.Reads as reads
-use Rattle.group.proofs.active.Lts as lts
 
 -- src/lib.rt:20:25
 mul-left : tie.Need-mul-left

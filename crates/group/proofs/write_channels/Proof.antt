@@ -6,7 +6,8 @@ use native.Mathlib.Omega.{arith}
 use lib.ListN.{length}
 use borrow.Author.Needs.{needs}
 use Rattle.format.specs.Decoding.{coded}
-use Rattle.lent.specs.Lent.{lentOf, restOf, channelsPut}
+use Rattle.lent.specs.Lent.{lentOf, restOf}
+use Rattle.lent.proofs.Weave.{channelsPut}
 use Rattle.lent.proofs.Laws.{same-count}
 use Rattle.group.proofs.Places.{Begins, begins-first}
 use Rattle.group.proofs.Channels.{none-put, whole, begins-next, put-turn, all-channels}

@@ -2,9 +2,6 @@ use borrow.Author.Needs.{needs}
 use Rattle.reader.proofs.Groups.{entry-there}
 use Rattle.reader.proofs.checking.offset_of.Statement.{statement}
 use Rattle.reader.proofs.checking.offset_of.Tie as tie
-use Rattle.reader.proofs.checking.offset_of.Reads as reads
-use Rattle.reader.proofs.checking.offset_of.Lts as lts
-use Rattle.header.proofs.entry_at.Reads as entry-at-reads
 
 -- src/lib.rt:22:5
 cast-result : tie.Need-cast-result
