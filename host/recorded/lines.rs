@@ -10,6 +10,11 @@ pub fn of_case(case: &Case) -> String {
     format!("{}, {}, kept\n", opened(&case.file), decoded(&case.file, case.room))
 }
 
+/// What every list begins with: lines that say `changed`, of a room whose sample 2 was changed on purpose.
+pub fn of_spoiled() -> String {
+    format!("spoiled, refused 1, changed\nspoiled, read 1 {}, changed\n", checksum(&[0x5A5A_0000]))
+}
+
 /// The number by which decoding refuses, in the line of a case.
 pub fn refusal_in(line: &str) -> Option<u32> {
     let refused = line.split(", ").nth(1)?.strip_prefix("refused ")?;

@@ -62,7 +62,7 @@ fn reading(program: &'static str, cases: &[Case]) -> Recorded {
     let sizes = |case: &Case| [case.file.len() as u32, case.room as u32].map(u32::to_le_bytes).concat();
     let input = cases.iter().flat_map(|case| [sizes(case), case.file.clone()].concat()).collect();
     let text: String = cases.iter().map(lines::of_case).collect();
-    (program, input, format!("{text}{} cases\n", cases.len()))
+    (program, input, format!("{}{text}{} cases\n", lines::of_spoiled(), cases.len()))
 }
 
 fn opening(program: &'static str, input: Vec<u8>) -> Recorded {

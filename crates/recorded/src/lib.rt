@@ -1,5 +1,9 @@
-// Opens and decodes each file of a recorded list, and prints a line for each.
+// Opens and decodes each file of a recorded list, and prints a line for each; first of all, what a spoiled room looks like.
 // The list has 4 bytes for a file's length, 4 for how many samples there is room for, and then the file.
+use format::Answer;
+use format::Outcome;
+use format::Refusal;
+use format::Samples;
 use libc::STDIN_FILENO;
 
 fn run_case(file: &[u8], room: &mut [i32]) {
@@ -36,8 +40,19 @@ fn next_case() -> bool {
     read_case(n, m, &mut file, &mut room)
 }
 
+// Room in which sample 2 has changed since it was filled, after this answer: the line says so.
+fn print_spoiled(answer: Answer) {
+    let mut room = [0i32; 4];
+    report::fill(&mut room);
+    room[2] = 0;
+    report::print(b"spoiled");
+    report::print_decoded(answer, &room);
+}
+
 // Every case; then how many there were. Turns are counted, since nothing says that an input ends.
 pub fn run() {
+    print_spoiled(Answer::refused(Refusal::TooShort));
+    print_spoiled(Answer::of(Outcome::Read(Samples(1))));
     let mut cases: u64 = 0;
     while cases < 1000 && next_case() {
         cases += 1;
