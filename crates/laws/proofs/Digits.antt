@@ -4,8 +4,8 @@ use mathlib.Core.Path.{_≡_, refl, sym, ap, ap₂, _∙_, subst}
 use mathlib.Core.List.{List, [], _∷_, _++_}
 use native.Mathlib.Nat.{mod-lt, mod-eq-of-lt, mul-zero, mul-suc, pow-zero, pow-suc, pow-succ', div-one, div-div-eq-div-mul, zero-lt-suc, mod-one, one-le-pow, zero-div, not-suc-le-zero, le-of-suc-le-suc}
 use native.Mathlib.Omega.{arith}
-use lib.ListN.{length, getD, drop}
-use lib.Seq.{take-at, drop-at}
+use lib.ListN.{length, getD, take, drop}
+use lib.Seq.{take-all, take-at, drop-at}
 use lib.Arith.{digits-lt, digits-div, digits-mod, mod-mul}
 use lib.Pow.{pow-add, pow-pos}
 use Rattle.format.specs.Lists.{from}
@@ -35,11 +35,15 @@ module _ (B : ℕ) where
       getD-digits n (N / B) k (le-of-suc-le-suc h)
       ∙ ap (λ (x : ℕ). x % B) (div-div-eq-div-mul N B (B ^ k) ∙ ap (λ (x : ℕ). N / x) (sym (pow-succ' B k)))
 
-  -- a number of digits below B is below the power
-  pub num-lt : (xs : List ℕ) → Below B xs → num B xs < B ^ length xs
+  -- a number of n digits below B is below the power; so is one of fewer
+  pub num-take-lt : (n : ℕ) (xs : List ℕ) → Below B xs → num B (take n xs) < B ^ n
   unfolding num
-  num-lt [] h = subst (λ (x : ℕ). 0 < x) (sym (pow-zero B)) (zero-lt-suc 0)
-  num-lt (x ∷ xs) h = subst (λ (y : ℕ). num B xs * B + x < y) (sym (pow-suc B (length xs))) (digits-lt (num-lt xs (λ i. h (suc i))) (h 0))
+  num-take-lt zero xs h = subst (λ (x : ℕ). 0 < x) (sym (pow-zero B)) (zero-lt-suc 0)
+  num-take-lt (suc n) [] h = one-le-pow (suc n) B (h 0)
+  num-take-lt (suc n) (x ∷ xs) h = subst (λ (y : ℕ). num B (take n xs) * B + x < y) (sym (pow-suc B n)) (digits-lt (num-take-lt n xs (λ i. h (suc i))) (h 0))
+
+  pub num-lt : (xs : List ℕ) → Below B xs → num B xs < B ^ length xs
+  num-lt xs h = subst (λ (ys : List ℕ). num B ys < B ^ length xs) (take-all (length xs) xs (omega arith)) (num-take-lt (length xs) xs h)
 
   -- digits, and back
   pub digits-num : (xs : List ℕ) → Below B xs → digits B (length xs) (num B xs) ≡ xs

@@ -2,21 +2,27 @@
 use Prim.Native.Nat.{ℕ, zero, suc, _+_, _*_, _^_, _≤_, _<_}
 use mathlib.Core.Path.{_≡_, refl, sym, ap, _∙_}
 use mathlib.Core.List.{List}
-use native.Mathlib.Nat.{mul-right-comm, pow-suc}
+use native.Mathlib.Nat.{mul-right-comm, pow-suc, zero-lt-suc}
 use native.Mathlib.Omega.{arith}
 use native.Mathlib.Numerals.{add-one}
 use lib.ListN.{length, getD, drop}
 use lib.Seq.{drop-cons, drop-drop}
 use Rattle.format.specs.Lists.{from}
-use Rattle.format.specs.Numbers.{num, numAt}
+use Rattle.format.specs.Numbers.{num, Below, numAt}
 use Rattle.format.specs.Blocks.{sizeOf, rest}
 use Rattle.format.specs.Refusals.{_then_, inOrder}
 use Rattle.format.specs.declared.refusals.Refusal.{Refusal}
 use Rattle.format.specs.declared.refusals.Checked.{Checked}
 use Rattle.format.specs.declared.refusals.Checked.the-variants.{Fine, No}
+use Rattle.laws.proofs.Each.{each-drop}
 use Rattle.laws.proofs.Checks.{order-refuses}
+use Rattle.laws.proofs.Digits.{num-take-lt}
 
 -- ---- little-endian numbers, byte by byte
+pub number-lt : (i n : ℕ) (s : List ℕ) → Below 256 s → numAt i n s < 256 ^ n
+unfolding numAt from
+number-lt i n s byte = num-take-lt 256 n (drop i s) (each-drop (λ x. x < 256) 0 (zero-lt-suc 255) i s byte)
+
 pub number-more : (i n : ℕ) (s : List ℕ) → i < length s → numAt i (suc n) s ≡ numAt (i + 1) n s * 256 + getD s i 0
 unfolding numAt from num
 number-more i n s h = rw (drop-cons s i 0 h, add-one)

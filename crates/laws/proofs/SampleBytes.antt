@@ -1,11 +1,11 @@
 -- Samples as bytes, and back: the host boundary loses nothing.
-use Prim.Native.Nat.{ℕ, _*_, _/_, _^_, _<_}
-use mathlib.Core.Path.{_≡_, sym, ap, _∙_, subst}
-use mathlib.Core.List.{List, [], append-nil}
-use native.Mathlib.Nat.{zero-lt-suc}
+use Prim.Native.Nat.{ℕ, zero, suc, _+_, _*_, _/_, _^_, _<_, _≤_}
+use mathlib.Core.Path.{_≡_, sym, ap, ap₂, _∙_, subst}
+use mathlib.Core.List.{List, [], _++_, append-nil, append-assoc}
+use native.Mathlib.Nat.{add-zero, add-suc, zero-lt-suc}
 use native.Mathlib.Omega.{arith}
-use lib.ListN.{length, getD}
-use lib.Seq.{take-all}
+use lib.ListN.{length, getD, take, drop, take-append-drop, length-append, List·getD-append}
+use lib.Seq.{take-all, drop-at, length-take-le, getD-append-add}
 use lib.IntN.{ℤ, pos}
 use Rattle.format.specs.Lists.{tab, joined, from}
 use Rattle.format.specs.Numbers.{num, Below, le, numAt, value, codeOf}
@@ -27,6 +27,28 @@ parts-length s n = length-even (part s) 4 (λ k. length-le 4 (codeOf 32 (getD s 
 pub sample-bytes-length : (s : List ℤ) → length (sampleBytes s) ≡ 4 * length s
 unfolding sampleBytes
 sample-bytes-length s = parts-length s (length s)
+
+parts-append : (xs ys : List ℤ) (n : ℕ) → joined (part (xs ++ ys)) (length xs + n) ≡ joined (part xs) (length xs) ++ joined (part ys) n
+unfolding joined
+parts-append xs ys zero =
+    ap (joined (part (xs ++ ys))) (add-zero (length xs))
+    ∙ joined-cong (part (xs ++ ys)) (part xs) (length xs) (λ k l. ap (λ (z : ℤ). le 4 (codeOf 32 z)) (List·getD-append xs ys (pos 0) k l))
+    ∙ sym (append-nil (joined (part xs) (length xs)))
+parts-append xs ys (suc n) =
+    ap (joined (part (xs ++ ys))) (add-suc (length xs) n)
+    ∙ ap₂ (λ (a b : List ℕ). a ++ b) (parts-append xs ys n) (ap (λ (z : ℤ). le 4 (codeOf 32 z)) (getD-append-add xs ys n (pos 0)))
+    ∙ append-assoc (joined (part xs) (length xs)) (joined (part ys) n) (part ys n)
+
+pub sample-bytes-append : (xs ys : List ℤ) → sampleBytes (xs ++ ys) ≡ sampleBytes xs ++ sampleBytes ys
+unfolding sampleBytes
+sample-bytes-append xs ys = ap (joined (part (xs ++ ys))) (length-append xs ys) ∙ parts-append xs ys (length ys)
+
+-- the bytes of all samples but the first n
+pub sample-bytes-drop : (n : ℕ) (s : List ℤ) → n ≤ length s → sampleBytes (drop n s) ≡ drop (4 * n) (sampleBytes s)
+sample-bytes-drop n s h =
+    let e : length (sampleBytes (take n s)) ≡ 4 * n = sample-bytes-length (take n s) ∙ ap (λ (k : ℕ). 4 * k) (length-take-le n s h) in
+    sym (drop-at (sampleBytes (take n s)) (sampleBytes (drop n s)) (4 * n) e)
+    ∙ ap (drop (4 * n)) (sym (sample-bytes-append (take n s) (drop n s)) ∙ ap sampleBytes (take-append-drop n s))
 
 sample-back : (s : List ℤ) → Fit s → (k : ℕ) → k < length s → value 32 (numAt (4 * k) 4 (sampleBytes s)) ≡ getD s k (pos 0)
 unfolding sampleBytes numAt

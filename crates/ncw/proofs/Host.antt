@@ -1,0 +1,45 @@
+-- What the host is told and finds in its bytes, from what opening and decoding answer and put.
+use Prim.Native.Nat.{ℕ, _*_, _/_, _≤_}
+use mathlib.Core.Path.{_≡_, refl, sym, ap, _∙_}
+use mathlib.Core.List.{List}
+use native.Mathlib.Nat.{mul-comm}
+use native.Mathlib.Omega.{arith}
+use lib.ListN.{length, drop}
+use borrow.Author.Tests.{ltb-false}
+use Rattle.format.specs.Numbers.{Below}
+use Rattle.format.specs.Header.{fieldsOf}
+use Rattle.format.specs.Refusals.{_then_}
+use Rattle.format.specs.Answers.{filled}
+use Rattle.format.specs.Opening.{openOf}
+use Rattle.format.specs.Decoding.{checkDecode, decodedOf, checkRoom, decodeOf, decodeInto}
+use Rattle.format.specs.Boundary.{samplesFrom, sampleBytes, result, hostOpen, hostDecode, hostDecodeInto}
+use Rattle.format.specs.declared.refusals.Checked.{Checked}
+use Rattle.format.specs.declared.refusals.Checked.the-variants.{Fine, No}
+use Rattle.format.specs.declared.answers.Answer.{Answer}
+use Rattle.laws.proofs.Checks.{passed, first-fine, others-fine}
+use Rattle.laws.proofs.Lengths.{decode-writes}
+use Rattle.lent.proofs.Laws.{length-lent}
+use Rattle.lent.proofs.Outcome.{same-bytes, bytes-over}
+
+pub told-open : (s : List ℕ) (a : Answer) (r : ℕ) → r ≡ result (a .outcome) → a ≡ openOf s → r ≡ hostOpen s
+unfolding hostOpen
+told-open s a r e p = e ∙ ap (λ (x : Answer). result (x .outcome)) p
+
+pub told-decode : (s b : List ℕ) (a : Answer) (r : ℕ) → r ≡ result (a .outcome) → a ≡ decodeOf s (length (samplesFrom b)) → r ≡ hostDecode s (length b)
+unfolding hostDecode
+told-decode s b a r e p = e ∙ ap (λ (x : Answer). result (x .outcome)) (p ∙ ap (decodeOf s) (length-lent b))
+
+decoded-room : (s : List ℕ) (room : ℕ) → (checkDecode s then checkRoom s room) ≡ Fine → length (decodedOf s) ≤ room
+unfolding checkRoom
+decoded-room s room fine =
+    let fits = ltb-false room (fieldsOf s .frames * fieldsOf s .channels) (passed _ _ (others-fine (checkDecode s) _ fine)) in
+    omega (arith, fits, decode-writes s (first-fine _ _ fine), mul-comm (fieldsOf s .channels) (fieldsOf s .frames))
+
+pub put-bytes :
+    (s b d : List ℕ) → Below 256 b → Below 256 d → samplesFrom d ≡ decodeInto s (samplesFrom b) → drop (length d / 4 * 4) d ≡ drop (length b / 4 * 4) b → d ≡ hostDecodeInto s b
+unfolding decodeInto hostDecodeInto
+put-bytes s b d hb hd p q = by (checkDecode s then checkRoom s (length b / 4)) refl (rw (length-lent b) at p)
+  where
+    by : (k : Checked) → (checkDecode s then checkRoom s (length b / 4)) ≡ k → samplesFrom d ≡ filled k (decodedOf s) (samplesFrom b) → d ≡ filled k (sampleBytes (decodedOf s)) b
+    by Fine e t = bytes-over (decodedOf s) b d hb hd (decoded-room s (length b / 4) e) t q
+    by (No r) e t = sym (same-bytes b d hb hd (sym t) (sym q))

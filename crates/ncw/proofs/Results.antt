@@ -1,0 +1,68 @@
+-- The host's number of an outcome: which it is, and that it fits.
+use Prim.Native.Nat.{ℕ, _+_, _*_, _^_, _<_}
+use mathlib.Core.Path.{_≡_, refl, sym, ap, _∙_}
+use mathlib.Core.List.{List}
+use mathlib.Core.Bool.{true, false}
+use native.Mathlib.Omega.{arith}
+use mir.Syntax.{w64}
+use mir.Val.{Fits}
+use Rattle.format.specs.Numbers.{Below}
+use Rattle.format.specs.Header.{fieldsOf}
+use Rattle.format.specs.Units.{samplesIn}
+use Rattle.format.specs.Refusals.{number, _then_}
+use Rattle.format.specs.Answers.{answered}
+use Rattle.format.specs.Opening.{checkOpen, headerOf, openOf}
+use Rattle.format.specs.Decoding.{checkDecode, decodedCount, checkRoom, decodeOf}
+use Rattle.format.specs.Boundary.{result}
+use Rattle.format.specs.declared.units.Frames.{Frames}
+use Rattle.format.specs.declared.units.Samples.{Samples}
+use Rattle.format.specs.declared.refusals.Refusal.{Refusal}
+use Rattle.format.specs.declared.refusals.Checked.{Checked}
+use Rattle.format.specs.declared.refusals.Checked.the-variants.{Fine, No}
+use Rattle.format.specs.declared.answers.Header.{Header}
+use Rattle.format.specs.declared.answers.Answer.{Answer}
+use Rattle.format.specs.declared.answers.Outcome.{Outcome}
+use Rattle.format.specs.declared.answers.Outcome.the-variants.{Opened, Read, Refused}
+use Rattle.format.proofs.UnitLaws.{product-below}
+use Rattle.laws.proofs.Tests.{never}
+use Rattle.laws.proofs.Reading.{number-lt}
+
+-- ---- which it is
+module _ (o : Outcome) where
+  pub opened-is : (h : Header) (n : Samples) → o ≡ Opened h → n ≡ samplesIn (h .frames) (h .channels) → 4 * n .0 ≡ result o
+  opened-is h n e p = ap (λ (m : Samples). 4 * m .0) p ∙ sym (ap result e)
+
+  pub read-is : (n : Samples) → o ≡ Read n → 4 * n .0 ≡ result o
+  read-is n e = sym (ap result e)
+
+  pub refused-is : (r : Refusal) (k : ℕ) → o ≡ Refused r → k ≡ number r → 2 ^ 63 + k ≡ result o
+  refused-is r k e p = ap (λ (m : ℕ). 2 ^ 63 + m) p ∙ sym (ap result e)
+
+-- ---- that it fits: frames and channels are of 32 and 16 bits
+counts-lt : (frames channels : ℕ) → frames < 2 ^ 32 → channels < 2 ^ 16 → 4 * (frames * channels) < 2 ^ 64
+counts-lt frames channels f c = omega (arith, product-below (2 ^ 32) (2 ^ 16) (omega arith) f c)
+
+pub opened-fits : (f : Frames) (channels : ℕ) (n : Samples) → n ≡ samplesIn f channels → f .0 < 2 ^ 32 → channels < 2 ^ 16 → Fits w64 (4 * n .0)
+opened-fits f channels n e h c = record { fits = omega (arith, ap (λ (m : Samples). m .0) e, counts-lt (f .0) channels h c) }
+
+pub read-fits : (o : Outcome) (n : Samples) → ((m : Samples) → o ≡ Read m → 4 * m .0 < 2 ^ 64) → o ≡ Read n → Fits w64 (4 * n .0)
+read-fits o n few e = record { fits = few n e }
+
+pub open-reads-none : (s : List ℕ) (a : Answer) → a ≡ openOf s → (n : Samples) → a .outcome ≡ Read n → 4 * n .0 < 2 ^ 64
+unfolding openOf
+open-reads-none s a e n p = by (checkOpen s) (sym (ap (λ (x : Answer). x .outcome) e) ∙ p)
+  where
+    by : (k : Checked) → answered k (Opened (headerOf s)) .outcome ≡ Read n → 4 * n .0 < 2 ^ 64
+    by Fine q = let none : true ≡ false = cc in never none
+    by (No r) q = let none : true ≡ false = cc in never none
+
+pub decode-reads-few : (s : List ℕ) (room : ℕ) (a : Answer) → Below 256 s → a ≡ decodeOf s room → (n : Samples) → a .outcome ≡ Read n → 4 * n .0 < 2 ^ 64
+unfolding decodeOf fieldsOf
+decode-reads-few s room a byte e n p = by (checkDecode s then checkRoom s room) (sym (ap (λ (x : Answer). x .outcome) e) ∙ p)
+  where
+    few : 4 * decodedCount s .0 < 2 ^ 64
+    few = counts-lt (fieldsOf s .frames) (fieldsOf s .channels) (number-lt 16 4 s byte) (number-lt 8 2 s byte)
+
+    by : (k : Checked) → answered k (Read (decodedCount s)) .outcome ≡ Read n → 4 * n .0 < 2 ^ 64
+    by Fine q = let e : decodedCount s ≡ n = cc in omega (arith, few, ap (λ (m : Samples). m .0) e)
+    by (No r) q = let none : true ≡ false = cc in never none
