@@ -2,7 +2,7 @@
 use Prim.Native.Nat.{ℕ, zero, suc, _+_, _-_, _*_, _/_, _%_, _^_, _≤_, _<_}
 use mathlib.Core.Path.{_≡_, refl, sym, ap, ap₂, _∙_}
 use mathlib.Core.List.{List, [], _∷_}
-use native.Mathlib.Nat.{mod-lt, mod-eq-of-lt, mod-one, zero-mod, one-mul, mul-comm, add-comm, sub-add-cancel, lt-of-lt-of-le, zero-lt-suc, one-le-pow, pow-zero, pow-suc}
+use native.Mathlib.Nat.{mod-lt, mod-eq-of-lt, mod-one, zero-mod, one-mul, mul-comm, add-comm, sub-add-cancel, lt-of-lt-of-le, lt-of-le-of-lt, div-le-self, zero-lt-suc, one-le-pow, pow-zero, pow-suc}
 use native.Mathlib.Omega.{arith}
 use lib.ListN.{getD, take, drop}
 use lib.Arith.{digits-lt, digits-div, digits-mod, mod-mul}
@@ -15,9 +15,10 @@ use Rattle.format.specs.Lists.{from}
 use Rattle.format.specs.Numbers.{num, numAt, value, Below}
 use Rattle.laws.proofs.Digits.{pow-mul, num-drop}
 use Rattle.laws.proofs.Each.{each-drop}
-use Rattle.bits.specs.Place.{bitsAt, Held, Valid, Filled, Read, taken, place, origin}
+use Rattle.bits.specs.Place.{bitsAt, Held, Valid, Ready, Filled, Read, ReadTwo, two, taken, takenTwo, place, origin}
 use Rattle.bits.specs.declared.Cursor.{Cursor}
 use Rattle.bits.specs.declared.Next.{Next}
+use Rattle.bits.specs.declared.Pair.{Pair}
 use Rattle.bits.proofs.Flat.{value-32}
 
 -- ---- powers that fit a machine word
@@ -45,7 +46,7 @@ word-bits s h i =
     ∙ num-low (drop i s) (each-drop (λ (x : ℕ). x < 256) 0 (zero-lt-suc 255) i s h) 4)
 
 -- ---- bits
-pub bits-lt : (N p w : ℕ) → bitsAt N p w < 2 ^ w
+bits-lt : (N p w : ℕ) → bitsAt N p w < 2 ^ w
 bits-lt N p w = mod-lt (N / 2 ^ p) (pow-pos w)
 
 -- j bits more above h
@@ -102,43 +103,76 @@ module _ (s : List ℕ) (c : Cursor) (w : ℕ) (bytes : (i : ℕ) → Fits w8 (g
   pub fills : Filled s c (record { acc = more; have = c .have + 32; at = c .at + 4 })
   fills = record { holds = record { within = omega (arith, h .within); held = more-held }; more = refl; on = refl }
 
--- w bits off what is held
-takes : (s : List ℕ) (c : Cursor) (w : ℕ) → Held s c → w ≤ c .have → c .have < w + 32 → c .at % 4 ≡ 0 → Read s (place c) w (taken c w)
-takes s c w h l m a =
-    let e : place c + w ≡ c .at * 8 - (c .have - w) = omega (arith, h .within) in
-    record {
-      means = ap (λ (x : ℕ). value w (x % 2 ^ w)) (h .held) ∙ ap (value w) (bits-low (num 256 s) (place c) (c .have) w l);
-      valid = record {
+-- w bits off the n that are held: what they mean, and the m that are left
+module _ (s : List ℕ) (p n : ℕ) (c : Cursor) (w m : ℕ) (r : Ready s p n c) (e : m + w ≡ n) where
+  means : value w (c .acc % 2 ^ w) ≡ value w (bitsAt (num 256 s) p w)
+  means =
+      ap (λ (x : ℕ). value w (x % 2 ^ w)) (r .holds .held)
+      ∙ ap (value w) (bits-low (num 256 s) (place c) (c .have) w (omega (arith, r .least)))
+      ∙ ap (λ (x : ℕ). value w (bitsAt (num 256 s) x w)) (r .here)
+
+  rest : Ready s (p + w) m (taken c w .cursor)
+  rest =
+      let q : place c + w ≡ c .at * 8 - (c .have - w) = omega (arith, r .holds .within, r .least) in
+      record {
         holds = record {
-          within = omega (arith, h .within);
-          held = ap (λ (x : ℕ). x / 2 ^ w) (h .held) ∙ bits-high (num 256 s) (place c) (c .have) w l ∙ ap (λ (p : ℕ). bitsAt (num 256 s) p (c .have - w)) e;
+          within = omega (arith, r .holds .within);
+          held =
+              ap (λ (x : ℕ). x / 2 ^ w) (r .holds .held) ∙ bits-high (num 256 s) (place c) (c .have) w (omega (arith, r .least))
+              ∙ ap (λ (x : ℕ). bitsAt (num 256 s) x (c .have - w)) q;
         };
-        small = omega arith;
-        whole = a;
-      };
-      moved = omega (arith, h .within);
-    }
+        least = omega (arith, r .least);
+        most = omega (arith, r .most);
+        whole = r .whole;
+        here = omega (arith, r .here, q);
+      }
 
 -- what is held fits 63 bits
-held-63 : (s : List ℕ) (c : Cursor) → Held s c → c .have < 64 → c .acc < 2 ^ 63
-held-63 s c h l = rw (h .held) (lt-of-lt-of-le (bits-lt (num 256 s) (place c) (c .have)) (pow-mono {j = 63} (omega arith)))
+pub ready-63 : (s : List ℕ) (p n : ℕ) (c : Cursor) → Ready s p n c → n ≤ 32 → c .acc < 2 ^ 63
+ready-63 s p n c r u = rw (r .holds .held) (lt-of-lt-of-le (bits-lt (num 256 s) (place c) (c .have)) (pow-mono {j = 63} (omega (arith, r .most))))
 
-pub valid-63 : (s : List ℕ) (c : Cursor) → Valid s c → c .acc < 2 ^ 63
-valid-63 s c v = held-63 s c (v .holds) (omega (arith, v .small))
-
-pub filled-63 : (s : List ℕ) (c f : Cursor) → Valid s c → Filled s c f → f .acc < 2 ^ 63
-filled-63 s c f v m = held-63 s f (m .holds) (omega (arith, m .more, v .small))
+-- a value as 32 bits is itself
+pub value-is : (v : ℤ) (w x : ℕ) → 1 ≤ w → w ≤ 32 → v ≡ value w (x % 2 ^ w) → toZ w32 (ofZ w32 v) ≡ value w (x % 2 ^ w)
+value-is v w x l u e = ap (λ (z : ℤ). toZ w32 (ofZ w32 z)) e ∙ toZ-ofZ w32 (value w (x % 2 ^ w)) (value-32 w (x % 2 ^ w) l u (mod-lt x (pow-pos w)))
 
 pub taken-is : (c : Cursor) (w : ℕ) (v : ℤ) → 1 ≤ w → w ≤ 32 → v ≡ value w (c .acc % 2 ^ w)
     → _≡_ {A = Next} (record { value = toZ w32 (ofZ w32 v); cursor = record { acc = c .acc / 2 ^ w; have = c .have - w; at = c .at } }) (taken c w)
-taken-is c w v l u e = rw (e, toZ-ofZ w32 _ (value-32 w (c .acc % 2 ^ w) l u (mod-lt (c .acc) (pow-pos w))))
+taken-is c w v l u e = rw (value-is v w (c .acc) l u e)
 
--- the value that is read, with or without a word more first
-module _ (s : List ℕ) (c : Cursor) (w : ℕ) (n : Next) (v : Valid s c) where
-  pub read-held : w ≤ c .have → n ≡ taken c w → Read s (place c) w n
-  read-held l e = rw e (takes s c w (v .holds) l (omega (arith, v .small)) (v .whole))
+-- a second value of what is held
+module _ (c : Cursor) (w : ℕ) (a : Next) (e : a ≡ taken c w) where
+  pub left-have : 2 * w ≤ c .have → w ≤ a .cursor .have
+  left-have l = rw e (omega arith)
 
-  pub read-filled : (f : Cursor) → c .have < w → w ≤ 32 → Filled s c f → n ≡ taken f w → Read s (place c) w n
-  read-filled f l u m e =
-      let same : place f ≡ place c = omega (arith, m .more, m .on) in
-      rw (e, ← same) (takes s f w (m .holds) (omega (arith, m .more)) (omega (arith, m .more)) (omega (arith, m .on, v .whole)))
+  pub left-63 : c .acc < 2 ^ 63 → a .cursor .acc < 2 ^ 63
+  left-63 h = rw e (lt-of-le-of-lt (div-le-self (c .acc) (2 ^ w)) h)
+
+  pub taken-two-is : (b : Next) (r : Pair) → b ≡ taken (a .cursor) w → r ≡ two a b → r ≡ takenTwo c w
+  taken-two-is b r q t = t ∙ ap (two a) q ∙ ap (λ (x : Next). two x (taken (x .cursor) w)) e
+
+-- what is read: a value, two of what is held, two one after the other
+pub read-one : (s : List ℕ) (p : ℕ) (c : Cursor) (w : ℕ) (n : Next) → Ready s p w c → n ≡ taken c w → Read s p w n
+read-one s p c w n r e =
+    let after = rest s p w c w 0 r (omega arith) in
+    rw e
+    (record {
+      means = means s p w c w 0 r (omega arith);
+      valid = record { holds = after .holds; small = omega (arith, after .most); whole = after .whole };
+      moved = after .here;
+    })
+
+pub read-two : (s : List ℕ) (p : ℕ) (c : Cursor) (w : ℕ) (n : Pair) → Ready s p (2 * w) c → n ≡ takenTwo c w → ReadTwo s p w n
+read-two s p c w n r e =
+    let after = rest s p (2 * w) c w w r (omega arith) in
+    let last = read-one s (p + w) (taken c w .cursor) w (taken (taken c w .cursor) w) after refl in
+    rw e (record { first = means s p (2 * w) c w w r (omega arith); second = last .means; valid = last .valid; moved = omega (arith, last .moved) })
+
+pub read-each : (s : List ℕ) (p w : ℕ) (a b : Next) (n : Pair) → Read s p w a → Read s (place (a .cursor)) w b → n ≡ two a b → ReadTwo s p w n
+read-each s p w a b n q r e =
+    rw e
+    (record {
+      first = q .means;
+      second = r .means ∙ ap (λ (x : ℕ). value w (bitsAt (num 256 s) x w)) (q .moved);
+      valid = r .valid;
+      moved = omega (arith, q .moved, r .moved);
+    })

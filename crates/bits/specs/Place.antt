@@ -6,6 +6,7 @@ use lib.ListN.{length}
 use Rattle.format.specs.Numbers.{num, value}
 use Rattle.bits.specs.declared.Cursor.{Cursor}
 use Rattle.bits.specs.declared.Next.{Next}
+use Rattle.bits.specs.declared.Pair.{Pair}
 
 -- the w bits of n from the bit p on
 abbrev pub bitsAt : ℕ → ℕ → ℕ → ℕ
@@ -30,6 +31,14 @@ pub record Valid (s : List ℕ) (c : Cursor) : Type 0 where
   pub small : c .have < 32
   pub whole : c .at % 4 ≡ 0
 
+-- at bit p, with at least n bits held
+pub record Ready (s : List ℕ) (p n : ℕ) (c : Cursor) : Type 0 where
+  pub holds : Held s c
+  pub least : n ≤ c .have
+  pub most : c .have < n + 32
+  pub whole : c .at % 4 ≡ 0
+  pub here : place c ≡ p
+
 -- a code of width w at bit p lies in the run, which is whole words
 pub record Room (s : List ℕ) (p w : ℕ) : Type 0 where
   pub low : 1 ≤ w
@@ -40,6 +49,14 @@ pub record Room (s : List ℕ) (p w : ℕ) : Type 0 where
 -- the value of the lowest w bits of what is held, and the rest
 abbrev pub taken : Cursor → ℕ → Next
 taken c w = record { value = value w (c .acc % 2 ^ w); cursor = record { acc = c .acc / 2 ^ w; have = c .have - w; at = c .at } }
+
+-- a value and the one after it
+abbrev pub two : Next → Next → Pair
+two a b = record { first = a .value; second = b .value; cursor = b .cursor }
+
+-- two values of the lowest bits, and the rest
+abbrev pub takenTwo : Cursor → ℕ → Pair
+takenTwo c w = let a = taken c w in two a (taken (a .cursor) w)
 
 -- the cursor after a word more
 pub record Filled (s : List ℕ) (c r : Cursor) : Type 0 where
@@ -52,3 +69,10 @@ pub record Read (s : List ℕ) (p w : ℕ) (r : Next) : Type 0 where
   pub means : r .value ≡ value w (bitsAt (num 256 s) p w)
   pub valid : Valid s (r .cursor)
   pub moved : place (r .cursor) ≡ p + w
+
+-- what is read at bit p and after it: the values of two codes of w bits, and the cursor past them
+pub record ReadTwo (s : List ℕ) (p w : ℕ) (r : Pair) : Type 0 where
+  pub first : r .first ≡ value w (bitsAt (num 256 s) p w)
+  pub second : r .second ≡ value w (bitsAt (num 256 s) (p + w) w)
+  pub valid : Valid s (r .cursor)
+  pub moved : place (r .cursor) ≡ p + 2 * w

@@ -6,7 +6,7 @@ ghost use Prim.Native.Nat.{_+_, _*_, _%_, _<_, _≤_, _^_};
 ghost use lib.ListN.{length};
 ghost use Rattle.format.specs.Numbers.{value};
 ghost use Rattle.format.specs.Packed.{values};
-ghost use Rattle.bits.specs.Place.{Held, Valid, Room, Read, Filled, taken, place, origin};
+ghost use Rattle.bits.specs.Place.{Held, Valid, Ready, Room, Read, ReadTwo, Filled, two, taken, takenTwo, place, origin};
 
 // A place in a packed run: the bits before byte `at` that are not read yet.
 pub struct Cursor {
@@ -17,6 +17,12 @@ pub struct Cursor {
 
 pub struct Next {
     pub value: i32,
+    pub cursor: Cursor,
+}
+
+pub struct Pair {
+    pub first: i32,
+    pub second: i32,
     pub cursor: Cursor,
 }
 
@@ -35,6 +41,18 @@ pub fn sign_extend(raw: u64, bits: u32) -> i32
     let half = pow2(bits - 1);
     let up = (raw + half) % pow2(bits);
     (up as i64 - half as i64) as i32
+}
+
+// A value and the one after it.
+fn two(a: Next, b: Next) -> Pair
+    ensures { λ r. ⌜ r ≡ two a b ⌝ }
+{
+    let cursor = b.cursor;
+    Pair {
+        first: a.value,
+        second: b.value,
+        cursor,
+    }
 }
 
 impl Cursor {
@@ -76,16 +94,57 @@ impl Cursor {
         }
     }
 
+    // The cursor with at least n bits held.
+    fn holding(self, run: &[u8], n: u32) -> Cursor
+        requires { ⌜ Valid (now run) self ⌝ }
+        requires { ⌜ Room (now run) (place self) n ⌝ }
+        ensures { λ r. ⌜ Ready (now (run .entry)) (place self) n r ⌝ }
+    {
+        if self.have < n {
+            return self.filled(run);
+        }
+        self
+    }
+
     // The value at the cursor's place, and the cursor after it.
     pub fn next(self, run: &[u8], bits: u32) -> Next
         requires { ⌜ Valid (now run) self ⌝ }
         requires { ⌜ Room (now run) (place self) bits ⌝ }
         ensures { λ r. ⌜ Read (now (run .entry)) (place self) bits r ⌝ }
     {
-        if self.have < bits {
-            return self.filled(run).taken(bits);
+        self.holding(run, bits).taken(bits)
+    }
+
+    // The values of the lowest bits of what is held and of those above them, and the rest.
+    fn taken_two(self, bits: u32) -> Pair
+        requires { ⌜ (1 ≤ bits) × (bits ≤ 32) × (2 * bits ≤ self .have) × (self .acc < 2 ^ 63) ⌝ }
+        ensures { λ r. ⌜ r ≡ takenTwo self bits ⌝ }
+    {
+        let a = self.taken(bits);
+        two(a, a.cursor.taken(bits))
+    }
+
+    // The next value, and the one after it.
+    fn next_two(self, run: &[u8], bits: u32) -> Pair
+        requires { ⌜ Valid (now run) self ⌝ }
+        requires { ⌜ Room (now run) (place self + bits) bits ⌝ }
+        ensures { λ r. ⌜ ReadTwo (now (run .entry)) (place self) bits r ⌝ }
+    {
+        let a = self.next(run, bits);
+        two(a, a.cursor.next(run, bits))
+    }
+
+    // The two values at the cursor's place, and the cursor after them.
+    pub fn pair(self, run: &[u8], bits: u32) -> Pair
+        requires { ⌜ Valid (now run) self ⌝ }
+        requires { ⌜ Room (now run) (place self + bits) bits ⌝ }
+        ensures { λ r. ⌜ ReadTwo (now (run .entry)) (place self) bits r ⌝ }
+    {
+        if bits <= 16 {
+            // one look serves for both
+            return self.holding(run, 2 * bits).taken_two(bits);
         }
-        self.taken(bits)
+        self.next_two(run, bits)
     }
 }
 
@@ -98,11 +157,13 @@ pub fn packed_values(run: &[u8], bits: u32) -> [i32; 512]
     let mut cursor = Cursor::start();
     let mut k: usize = 0;
     while k < Depth::SAMPLES_PER_BLOCK {
-        let n = cursor.next(run, bits);
-        let v = n.value;
+        let p = cursor.pair(run, bits);
+        let v = p.first;
+        let w = p.second;
         out[k] = v;
-        cursor = n.cursor;
-        k += 1;
+        out[k + 1] = w;
+        cursor = p.cursor;
+        k += 2;
     }
     out
 }

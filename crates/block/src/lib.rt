@@ -150,12 +150,15 @@ fn rebuild(base: i32, run: &[u8], bits: u32) -> [i32; 512]
     let mut x = base;
     let mut k: usize = 0;
     while k < Depth::SAMPLES_PER_BLOCK {
+        let p = cursor.pair(run, bits);
+        let d = p.first;
+        let e = p.second;
         out[k] = x;
-        let n = cursor.next(run, bits);
-        let d = n.value;
         x = sample::wrapping_add(x, d);
-        cursor = n.cursor;
-        k += 1;
+        out[k + 1] = x;
+        x = sample::wrapping_add(x, e);
+        cursor = p.cursor;
+        k += 2;
     }
     out
 }

@@ -46,7 +46,7 @@ pub fn put_sample(which: Container, words: &mut [i32], bytes: &mut [u8], i: usiz
 }
 
 // n samples of a run, from `skip` on, put where channel c of the frames from `first` on lies.
-pub fn put_channel(
+fn put_strided(
     which: Container,
     words: &mut [i32],
     bytes: &mut [u8],
@@ -69,6 +69,29 @@ pub fn put_channel(
             (first + k) * channels + c,
             run[skip + k],
         );
+    }
+}
+
+// The same. Samples of one channel lie side by side: where that is seen, many are stored at once.
+pub fn put_channel(
+    which: Container,
+    words: &mut [i32],
+    bytes: &mut [u8],
+    first: usize,
+    skip: usize,
+    n: usize,
+    channels: usize,
+    c: usize,
+    run: [i32; 512],
+)
+    requires { ⌜ (skip + n ≤ 512) × (c < channels) × ((first + n) * channels ≤ length (lentOf which (now words) (now bytes))) ⌝ }
+    ensures puts { λ _. ⌜ lentOf which (now (words .exit)) (now (bytes .exit)) ≡ strided (lentOf which (now (words .entry)) (now (bytes .entry))) (first * channels + c) channels (from skip n run) ⌝ }
+    ensures keeps { λ _. ⌜ restOf which (now (words .exit)) (now (bytes .exit)) ≡ restOf which (now (words .entry)) (now (bytes .entry)) ⌝ }
+{
+    if channels == 1 {
+        put_strided(which, words, bytes, first, skip, n, 1, 0, run);
+    } else {
+        put_strided(which, words, bytes, first, skip, n, channels, c, run);
     }
 }
 

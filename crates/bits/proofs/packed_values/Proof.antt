@@ -1,48 +1,41 @@
-use Prim.Native.Nat.{_≤_, _*_, _-_}
+use Prim.Native.Nat.{_≤_, _*_, _-_, _%_}
 use native.Mathlib.Nat.{mul-zero}
 use native.Mathlib.Omega.{arith}
 use mathlib.Core.Path.{_≡_, refl}
 use lib.ListN.{length, length-set}
 use borrow.Author.Count.{below-none}
+use borrow.Author.Needs.{needs}
 use Rattle.bits.specs.Place.{Valid, place}
 use Rattle.bits.proofs.Steps.{at-origin}
-use Rattle.bits.proofs.Run.{Done, next-value, one-more, all-done, room, next-place}
+use Rattle.bits.proofs.Run.{Done, first-value, second-value, two-more, all-done, room, next-place}
 use Rattle.bits.proofs.packed_values.Statement.{statement}
 use Rattle.bits.proofs.packed_values.Tie as tie
 
 abbrev Inv-loop : tie.InvT-loop
 Inv-loop run bits out₀ cursor₀ k₀ out cursor k =
-    (k ≤ 512) × (length out ≡ 512) × Valid run cursor × (place cursor ≡ bits * k) × Done bits run out k
+    (k ≤ 512) × (k % 2 ≡ 0) × (length out ≡ 512) × Valid run cursor × (place cursor ≡ bits * k) × Done bits run out k
 
 abbrev μ-loop : tie.MeasureT-loop
 μ-loop run bits out₀ cursor₀ k₀ out cursor k = 512 - k
 
-start-requires : tie.Need-start-requires Inv-loop μ-loop
-start-requires c κs = tt
-
 loop-holds : tie.Need-loop-holds Inv-loop μ-loop
 loop-holds c =
-    (omega arith, refl, rw (c .start .ensures) (at-origin (c .before .before .args .run .now)), rw (c .start .ensures, mul-zero), below-none _)
+    (omega arith, refl, refl, rw (c .start .ensures) (at-origin (c .before .before .args .run .now)), rw (c .start .ensures, mul-zero), below-none _)
 
-next-requires : tie.Need-next-requires Inv-loop μ-loop
-next-requires c κs = (c .before .loop .inv .2, search room)
-
-mul-out : tie.Need-mul-out Inv-loop μ-loop
-mul-out c = omega arith
-
-array-set-from-out : tie.Need-array-set-from-out Inv-loop μ-loop
-array-set-from-out c = omega arith
-
-add-k : tie.Need-add-k Inv-loop μ-loop
-add-k c = omega arith
-
-loop-less : tie.Need-loop-less Inv-loop μ-loop
-loop-less c = omega arith
+pair-requires : tie.Need-pair-requires Inv-loop μ-loop
+pair-requires c κs = (c .before .loop .inv .3, search room)
 
 loop-again : tie.Need-loop-again Inv-loop μ-loop
 loop-again c =
-    let l = c .before .before .before .before .loop in
-    (omega arith, rw length-set (l .inv .1), c .before .before .next .ensures .valid, search next-place, search (one-more, next-value))
+    let turn = c .before .before .before in
+    let at = turn .before .before .loop in (
+      omega arith,
+      omega arith,
+      simp length-set (at .inv .2),
+      turn .pair .ensures .valid,
+      search next-place,
+      search (two-more, first-value, second-value),
+    )
 
 returns : tie.Need-returns Inv-loop μ-loop
 returns c = search all-done
@@ -53,12 +46,15 @@ packed-values-spec =
     (tie.spec
     Inv-loop
     μ-loop
-    start-requires
+    (λ c κs. search needs)
     loop-holds
-    next-requires
-    mul-out
-    array-set-from-out
-    add-k
-    loop-less
+    pair-requires
+    (λ c. search needs)
+    (λ c. search needs)
+    (λ c. search needs)
+    (λ c. search needs)
+    (λ c. search needs)
+    (λ c. search needs)
+    (λ c. search needs)
     loop-again
     returns)

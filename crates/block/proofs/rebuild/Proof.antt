@@ -1,6 +1,6 @@
 -- `block::rebuild` meets its contract. The loop's invariant: what is done, and the samples that x and the differences left say, are the samples, and the cursor stands before difference k.
 use mathlib.Core.Path.{_≡_, refl, ap, _∙_}
-use Prim.Native.Nat.{_≤_, _-_, _*_}
+use Prim.Native.Nat.{_≤_, _-_, _*_, _%_}
 use native.Mathlib.Nat.{mul-zero}
 use native.Mathlib.Omega.{arith}
 use borrow.Author.Needs.{needs}
@@ -14,40 +14,43 @@ use Rattle.format.specs.Packed.{values, rebuilt}
 use Rattle.bits.specs.Place.{Valid, place}
 use Rattle.bits.proofs.Steps.{at-origin}
 use Rattle.laws.proofs.Lengths.{length-values}
-use Rattle.bits.proofs.Run.{next-value, room, next-place}
+use Rattle.bits.proofs.Run.{first-value, second-value, room, next-place}
 use Rattle.sample.proofs.Words.{given}
-use Rattle.block.proofs.Sweeps.{Summed, summed-more, summed-all}
+use Rattle.block.proofs.Sweeps.{Summed, summed-two, summed-all}
 use Rattle.block.proofs.rebuild.Statement.{statement}
 use Rattle.block.proofs.rebuild.Tie as tie
 
 abbrev Inv-loop : tie.InvT-loop
 Inv-loop base run bits out₀ cursor₀ x₀ k₀ out cursor x k =
-    (k ≤ 512) × (length out ≡ 512) × Valid run cursor × (place cursor ≡ bits * k) × Summed (toZ w32 base) (values bits run) out (toZ w32 x) k
+    (k ≤ 512) × (k % 2 ≡ 0) × (length out ≡ 512) × Valid run cursor × (place cursor ≡ bits * k) × Summed (toZ w32 base) (values bits run) out (toZ w32 x) k
 
 abbrev μ-loop : tie.MeasureT-loop
 μ-loop base run bits out₀ cursor₀ x₀ k₀ out cursor x k = 512 - k
 
 loop-holds : tie.Need-loop-holds Inv-loop μ-loop
 loop-holds c =
-    (omega arith, refl, rw (c .start .ensures) (at-origin (c .before .before .args .run .now)), rw (c .start .ensures, mul-zero), refl)
+    (omega arith, refl, refl, rw (c .start .ensures) (at-origin (c .before .before .args .run .now)), rw (c .start .ensures, mul-zero), refl)
 
-next-requires : tie.Need-next-requires Inv-loop μ-loop
-next-requires c κs = (c .before .loop .inv .2, search room)
+pair-requires : tie.Need-pair-requires Inv-loop μ-loop
+pair-requires c κs = (c .before .loop .inv .3, search room)
 
 loop-again : tie.Need-loop-again Inv-loop μ-loop
 loop-again c =
-    let turn = c .before .before .before in
+    let turn = c .before .before .before .before .before in
     let at = turn .before .before .loop in
     let start = turn .before .before .before .before .before in
-    let vs = values (start .args .bits) (start .args .run .now) in (
+    let one = c .before .before .wrapping-add in
+    let two = c .before .wrapping-add2 in (
       omega arith,
-      simp length-set (at .inv .1),
-      turn .next .ensures .valid,
+      omega arith,
+      simp length-set (at .inv .2),
+      turn .pair .ensures .valid,
       search next-place,
-      summed-more (toZ w32 (ofZ w32 (start .args .base))) vs (at .out) (toZ w32 (at .x)) (toZ w32 (ofZ w32 (c .before .wrapping-add .result))) (at .k) (omega arith)
+      summed-two _ _ _ (toZ w32 (at .x)) (toZ w32 (ofZ w32 (one .result))) _ (at .k) (omega arith)
           (omega (arith, length-values (start .args .bits) (start .args .run .now)))
-          (given (c .before .wrapping-add .ok) (c .before .wrapping-add .ensures ∙ ap (plus (toZ w32 (at .x))) (search next-value)))
-          (at .inv .4),
+          (given (one .ok) (one .ensures ∙ ap (plus (toZ w32 (at .x))) (search first-value)))
+          (given (two .ok) (two .ensures ∙ ap (plus (toZ w32 (ofZ w32 (one .result)))) (search second-value)))
+          (at .inv .5),
     )
 
 returns : tie.Need-returns Inv-loop μ-loop
@@ -57,7 +60,7 @@ returns c =
     let vs = values (start .args .bits) (start .args .run .now) in
     summed-all (toZ w32 (ofZ w32 (start .args .base))) vs (at .out) (toZ w32 (at .x)) (at .k) (omega arith)
     (omega (arith, length-values (start .args .bits) (start .args .run .now)))
-    (at .inv .4)
+    (at .inv .5)
     ∙ ap (λ (b : ℤ). rebuilt b vs) (toZ-ofZ w32 (start .args .base) (start .fits .base))
 
 pub rebuild-spec : {M : Type 1} → statement M
@@ -68,9 +71,13 @@ rebuild-spec =
     μ-loop
     (λ c κs. search needs)
     loop-holds
+    pair-requires
     (λ c. search needs)
     (λ c. search needs)
-    next-requires
+    (λ c κs. search needs)
+    (λ c. search needs)
+    (λ c. search needs)
+    (λ c. search needs)
     (λ c κs. search needs)
     (λ c. search needs)
     (λ c. search needs)

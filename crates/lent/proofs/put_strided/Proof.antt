@@ -1,0 +1,95 @@
+-- `lent::put_strided` meets its contract. The loop's invariant: k elements of the run lie at their places, and nothing else has changed.
+use mathlib.Core.Path.{_≡_, refl, _∙_}
+use Prim.Native.Nat.{_+_, _-_, _*_, _^_, _≤_, _<_}
+use native.Mathlib.Omega.{arith}
+use lib.Arith.{digits-lt}
+use lib.ListN.{length}
+use borrow.Author.Needs.{needs}
+use Rattle.format.specs.Lists.{from}
+use Rattle.sample.proofs.Words.{given}
+use Rattle.lent.specs.Lent.{lentOf, restOf, strided}
+use Rattle.lent.proofs.Laws.{count-lt}
+use Rattle.lent.proofs.Weave.{length-strided}
+use Rattle.lent.proofs.Runs.{frame-le, strided-none, strided-turn}
+use Rattle.lent.proofs.put_strided.Statement.{statement}
+use Rattle.lent.proofs.put_strided.Tie as tie
+
+abbrev Inv-loop : tie.InvT-loop
+Inv-loop which words₀ bytes₀ first skip n channels c run k₀ words bytes k =
+    (k ≤ n)
+    × (length words ≡ length words₀)
+    × (length bytes ≡ length bytes₀)
+    × (lentOf which words bytes ≡ strided (lentOf which words₀ bytes₀) (first * channels + c) channels (from skip k run))
+    × (restOf which words bytes ≡ restOf which words₀ bytes₀)
+
+abbrev μ-loop : tie.MeasureT-loop
+μ-loop which words₀ bytes₀ first skip n channels c run k₀ words bytes k = n - k
+
+-- the samples' number fits, and every place that is written is within them
+fits : (a : tie.Start Inv-loop μ-loop) → length (lentOf (a .args .which) (a .args .words .now) (a .args .bytes .now)) < 2 ^ 64
+fits a = count-lt (a .args .which) _ _ (2 ^ 64) (omega arith) (omega arith)
+
+long : (a : tie.Start Inv-loop μ-loop) → length (a .args .t9) ≡ 512
+long a = search needs
+
+within : (c : tie.In-loop Inv-loop μ-loop) → (let x = c .before .before .before .args in (x .first + c .before .loop .k) * x .channels + x .c < length (lentOf (x .which) (x .words .now) (x .bytes .now)))
+within c =
+    let a = c .before .before .before in
+    let p : a .args .first + c .before .loop .k < a .args .first + a .args .n = omega arith in
+    omega (arith, digits-lt p (a .pre .1))
+
+loop-holds : tie.Need-loop-holds Inv-loop μ-loop
+loop-holds c = let x = c .before .args in (omega arith, refl, refl, strided-none (lentOf (x .which) (x .words .now) (x .bytes .now)) (x .first * x .channels + x .c) (x .channels) (x .skip) (x .t9), refl)
+
+add-put-sample : tie.Need-add-put-sample Inv-loop μ-loop
+add-put-sample c = let i = c .before .before in let a = i .before .before .before in omega (arith, fits a, within i, frame-le (a .args .first + i .before .loop .k) (a .args .channels) (a .args .c) (a .pre .1))
+
+mul-put-sample : tie.Need-mul-put-sample Inv-loop μ-loop
+mul-put-sample c = let i = c .before .before in omega (arith, fits (i .before .before .before), within i)
+
+add-put-sample-2 : tie.Need-add-put-sample-2 Inv-loop μ-loop
+add-put-sample-2 c = let i = c .before .before in omega (arith, fits (i .before .before .before), within i)
+
+put-sample-requires : tie.Need-put-sample-requires Inv-loop μ-loop
+put-sample-requires c κs = let i = c .before .before .before in rw (i .before .loop .inv .3, length-strided) (within i)
+
+loop-again : tie.Need-loop-again Inv-loop μ-loop
+loop-again c =
+    let g = c .before .before .before in
+    let l = g .before .before .before .before .before in
+    let a = l .before .before in
+    let x = a .args in
+    let i = l .loop .inv in (
+      omega arith,
+      g .put-sample .kept .1 .0 ∙ i .1,
+      g .put-sample .kept .1 .1 .0 ∙ i .2,
+      g .put-sample .ensures .0 ∙ rw (i .3) (strided-turn (lentOf (x .which) (x .words .now) (x .bytes .now)) (x .t9) (x .first) (x .channels) (x .c) (x .skip) (l .loop .k) (omega (arith, long a)) (given (g .before .put-sample-arg3 .given) refl)),
+      g .put-sample .ensures .1 ∙ i .4,
+    )
+
+returns : tie.Need-returns Inv-loop μ-loop
+returns c =
+    let i = c .before .loop .inv in
+    let k : c .before .loop .k ≡ c .before .before .before .args .n = omega arith in
+    (rw k at (i .3), i .4)
+
+pub put-strided-spec : {M : Type 1} → statement M
+put-strided-spec =
+    tie.close
+    (tie.spec
+    Inv-loop
+    μ-loop
+    loop-holds
+    add-put-sample
+    mul-put-sample
+    add-put-sample-2
+    (λ c. search needs)
+    (λ c. search needs)
+    (λ c. search needs)
+    put-sample-requires
+    (λ c. search needs)
+    (λ c. search needs)
+    loop-again
+    (λ c. search needs)
+    (λ c. search needs)
+    returns)
