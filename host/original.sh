@@ -3,6 +3,7 @@
 
 host=$(cd "$(dirname "${BASH_SOURCE[0]}")" && pwd -P)
 root=$(dirname "$host")
+rustc=rustc
 
 stop() {
     printf '%s\n' "$*" >&2
@@ -21,15 +22,21 @@ original() {
     stop "The Rust original is not there. Set NCW_RUST_SRC to the folder that has its crates/ncw."
 }
 
-# build PROGRAM WORK: the original as it is, with an error.rs beside it, and a program over it, both in the folder WORK.
-build() {
-    local program=$1 work=$2 source
+# build_original WORK WORDS..: the original as it is, with an error.rs beside it, as a library in the folder WORK. WORDS go to rustc.
+build_original() {
+    local work=$1 source
+    shift
     source=$(original)
     rm -rf "$work/original"
     mkdir -p "$work/original/src"
     cp "$source"/*.rs "$host/definitions/error.rs" "$work/original/src/"
     : >"$work/original/README.md"
-    local words=(--edition 2021 -C opt-level=1 -C debug-assertions=on --out-dir "$work")
-    rustc "${words[@]}" --crate-name ncw --crate-type rlib "$work/original/src/lib.rs"
-    rustc "${words[@]}" --extern "ncw=$work/libncw.rlib" "$program"
+    "$rustc" --edition 2021 "$@" --crate-name ncw --crate-type rlib --out-dir "$work" "$work/original/src/lib.rs"
+}
+
+# build PROGRAM WORK: a program over the original, both in the folder WORK.
+build() {
+    local program=$1 work=$2 words=(-C opt-level=1 -C debug-assertions=on)
+    build_original "$work" "${words[@]}"
+    "$rustc" --edition 2021 "${words[@]}" --extern "ncw=$work/libncw.rlib" --out-dir "$work" "$program"
 }

@@ -1,0 +1,2 @@
+//! The two calls of the host boundary, as they are.
+pub use ours::boundary::{decode, open};

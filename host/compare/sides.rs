@@ -1,0 +1,78 @@
+//! What either side says of a file: the Rust original, and ours by its drop-in crate.
+use crate::asking::{ask, Answer, Question};
+use std::io::Cursor;
+
+/// Document 01's number, and the bits word where that is 4.
+pub type Refused = (u32, i16);
+
+/// Stands for an error that has no number, which no file is refused by.
+const WITHOUT_NUMBER: u32 = 999;
+
+#[derive(Debug, PartialEq)]
+pub struct Opened {
+    pub channels: u16,
+    depth: u16,
+    rate: u32,
+    pub frames: u32,
+    /// Table offset, data offset, data size.
+    bounds: [u32; 3],
+    offsets: Vec<u32>,
+    float: bool,
+}
+
+pub struct Said {
+    pub opened: Result<Opened, Refused>,
+    pub decoded: Result<Vec<i32>, Refused>,
+}
+
+/// Both crates have the same public names, in types of their own.
+macro_rules! opened {
+    ($side:ident, $reader:expr) => {{
+        let h = &$reader.header;
+        Opened {
+            channels: h.channels,
+            depth: h.bits_per_sample,
+            rate: h.sample_rate,
+            frames: h.num_samples,
+            bounds: [h.blocks_offset, h.data_offset, h.data_size],
+            offsets: $reader.block_offsets.clone(),
+            float: $reader.sample_format == $side::SampleFormat::Float,
+        }
+    }};
+}
+
+impl Said {
+    fn refused(refused: Refused) -> Self {
+        Said { opened: Err(refused), decoded: Err(refused) }
+    }
+}
+
+pub fn original(file: &[u8]) -> Said {
+    match ncw::NcwReader::read(Cursor::new(file)) {
+        Ok(reader) => Said { opened: Ok(opened!(ncw, reader)), decoded: answered(Question::Decode(file.to_vec())) },
+        Err(_) => Said::refused(answered(Question::Open(file.to_vec())).expect_err("it was refused before")),
+    }
+}
+
+fn answered(question: Question) -> Result<Vec<i32>, Refused> {
+    match ask(&question) {
+        Answer::Refused(number, bits) => Err((number, bits)),
+        Answer::Samples(samples) => Ok(samples),
+        _ => Ok(Vec::new()),
+    }
+}
+
+pub fn drop_in(file: &[u8]) -> Said {
+    match ours::NcwReader::read(Cursor::new(file)) {
+        Ok(mut reader) => Said { opened: Ok(opened!(ours, reader)), decoded: reader.decode_samples().map_err(refused) },
+        Err(error) => Said::refused(refused(error)),
+    }
+}
+
+fn refused(error: ours::NcwError) -> Refused {
+    let number = error.number().unwrap_or(WITHOUT_NUMBER);
+    match error {
+        ours::NcwError::UnsupportedBitDepth(bits) => (number, bits),
+        _ => (number, 0),
+    }
+}

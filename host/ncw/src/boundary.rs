@@ -1,0 +1,40 @@
+//! The two calls of the archive as they are: they answer a length in bytes, or [`REFUSED`] plus the number of a refusal.
+//!
+//! All that is `unsafe` in this crate is here.
+#![allow(unsafe_code)]
+
+use std::slice;
+
+const _: () = assert!(
+    cfg!(all(target_endian = "little", target_pointer_width = "64")),
+    "the archive is for a 64-bit host whose numbers have the lowest byte first"
+);
+
+/// What is added to the number of a refusal. No length reaches it.
+pub const REFUSED: u64 = 1 << 63;
+
+extern "C" {
+    fn ncw_open(file: *const u8, file_len: usize) -> u64;
+    fn ncw_decode(file: *const u8, file_len: usize, samples: *mut u8, samples_len: usize) -> u64;
+}
+
+/// Opens a file: how many bytes decoding it would write, if it does not refuse.
+pub fn open(file: &[u8]) -> u64 {
+    // SAFETY: the call reads the bytes of `file` and no others, and keeps nothing of them.
+    unsafe { ncw_open(file.as_ptr(), file.len()) }
+}
+
+/// Decodes a file: how many bytes of `samples` were written, from the first on, 4 to a sample with the lowest first. Where
+/// it refuses none is changed, and what lies after the written ones stays.
+pub fn decode(file: &[u8], samples: &mut [u8]) -> u64 {
+    // SAFETY: the call reads the bytes of `file`, writes bytes of `samples`, touches no others, and keeps nothing of them.
+    // The borrows keep the two apart.
+    unsafe { ncw_decode(file.as_ptr(), file.len(), samples.as_mut_ptr(), samples.len()) }
+}
+
+/// The same room as bytes.
+pub(crate) fn as_bytes(samples: &mut [i32]) -> &mut [u8] {
+    // SAFETY: the bytes are just those of `samples`, borrowed as long. A byte has no alignment, every byte is a `u8`, and any
+    // four bytes are an `i32`.
+    unsafe { slice::from_raw_parts_mut(samples.as_mut_ptr().cast(), size_of_val(samples)) }
+}

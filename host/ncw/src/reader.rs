@@ -1,0 +1,89 @@
+//! The reader by its original name.
+use crate::error::NcwError;
+use crate::opened::Opened;
+use crate::slices::{decode_into, open};
+use std::fmt;
+use std::io::{Read, Seek, SeekFrom};
+use std::marker::PhantomData;
+use std::ops::Deref;
+
+/// An NCW file, opened. It holds the file's bytes.
+///
+/// `header`, `block_offsets` and `sample_format` are read as members of the reader; they are those of [`Opened`], to which it
+/// dereferences. They can't be edited: decoding always speaks of the file that was opened.
+///
+/// ```no_run
+/// # let file = std::fs::File::open("sound.ncw")?;
+/// let mut reader = ncw::NcwReader::read(file)?;
+/// assert_eq!(reader.header.channels, 2);
+/// # Ok::<(), Box<dyn std::error::Error>>(())
+/// ```
+///
+/// ```compile_fail,E0594
+/// # let file = std::fs::File::open("sound.ncw")?;
+/// let mut reader = ncw::NcwReader::read(file)?;
+/// reader.header.channels = 2;
+/// # Ok::<(), Box<dyn std::error::Error>>(())
+/// ```
+pub struct NcwReader<R> {
+    opened: Opened,
+    file: Vec<u8>,
+    samples: usize,
+    reader: PhantomData<R>,
+}
+
+impl<R: Read + Seek> NcwReader<R> {
+    /// Reads the whole input from its start into memory, and opens it. The reader is dropped then.
+    pub fn read(mut reader: R) -> Result<Self, NcwError> {
+        let mut file = Vec::new();
+        reader.seek(SeekFrom::Start(0))?;
+        reader.read_to_end(&mut file)?;
+        let samples = open(&file)? / 4;
+        // Bytes that open have all that is read here, so this is never refused.
+        let opened = Opened::of(&file).ok_or_else(|| NcwError::refused(1, i16::default))?;
+        Ok(NcwReader { opened, file, samples, reader: PhantomData })
+    }
+
+    /// All samples, frame by frame, each frame's in the order of channels: [`NcwHeader::num_samples`] times
+    /// [`NcwHeader::channels`] of them. Mid/side is undone. If the format is float they are the bits of `f32`s.
+    ///
+    /// Not enough memory for them is `InvalidHeader`, as in the original, without a number; it is found before any refusal.
+    ///
+    /// [`NcwHeader::num_samples`]: crate::NcwHeader::num_samples
+    /// [`NcwHeader::channels`]: crate::NcwHeader::channels
+    pub fn decode_samples(&mut self) -> Result<Vec<i32>, NcwError> {
+        let mut samples = Vec::new();
+        samples.try_reserve_exact(self.samples).map_err(|_| NcwError::no_memory())?;
+        samples.resize(self.samples, 0);
+        decode_into(&self.file, &mut samples)?;
+        Ok(samples)
+    }
+}
+
+impl<R> Deref for NcwReader<R> {
+    type Target = Opened;
+
+    fn deref(&self) -> &Opened {
+        &self.opened
+    }
+}
+
+impl<R> fmt::Debug for NcwReader<R> {
+    fn fmt(&self, f: &mut fmt::Formatter<'_>) -> fmt::Result {
+        f.debug_struct("NcwReader").field("opened", &self.opened).finish_non_exhaustive()
+    }
+}
+
+#[cfg(test)]
+mod tests {
+    use super::*;
+
+    #[test]
+    fn not_enough_memory() {
+        let opened = Opened::of(&[0; 32]).unwrap();
+        let reader = PhantomData::<std::io::Empty>;
+        let refused = NcwReader { opened, file: Vec::new(), samples: usize::MAX, reader }.decode_samples().unwrap_err();
+        assert!(matches!(refused, NcwError::InvalidHeader(_)));
+        assert_eq!(refused.number(), None);
+    }
+}
