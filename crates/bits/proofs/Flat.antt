@@ -7,7 +7,7 @@ use native.Mathlib.Omega.{arith}
 use lib.Arith.{digits-mod}
 use lib.IntN.{ℤ, pos, negsuc, _-ℤ_}
 use lib.Dec.{ltb}
-use lib.Pow.{pow-pos, pow-mono}
+use lib.Pow.{pow-pos, pow-mono, mod-mod-pow}
 use mir.Syntax.{w32, w64}
 use mir.Val.{SFits, toZ, ofZ}
 use mir.ValLaws.{toZ-pos, toZ-ofZ}
@@ -29,20 +29,23 @@ value-32 b c l u h = record { sfits = lt-of-lt-of-le (value-holds b c l h) (pow-
 pub half-most : (b : ℕ) → b ≤ 32 → 2 ^ (b - 1) ≤ 2 ^ 31
 half-most b u = pow-mono {j = 31} (omega arith)
 
-module _ (b raw h p : ℕ) (l : 1 ≤ b) (u : b ≤ 32) (half : h ≡ 2 ^ (b - 1)) (full : p ≡ 2 ^ b) where
+module _ (b raw h p m : ℕ) (l : 1 ≤ b) (u : b ≤ 32) (half : h ≡ 2 ^ (b - 1)) (full : p ≡ 2 ^ b) (wraps : m ≡ (raw + h) % 2 ^ 64) where
   -- the lowest b bits
   abbrev c : ℕ
   c = raw % 2 ^ b
 
   -- with half of 2 ^ b added, at b bits
   abbrev up : ℕ
-  up = (raw + h) % p
+  up = m % p
 
   small : c < 2 ^ b
   small = mod-lt raw (pow-pos b)
 
   up-is : up ≡ (c + h) % p
-  up-is = rw full (sym (mod-add-mod raw (2 ^ b) h))
+  up-is =
+      let e : 64 ≡ 64 - b + b = omega arith in
+      rw (full, wraps)
+      (ap (λ (x : ℕ). (raw + h) % 2 ^ x % 2 ^ b) e ∙ mod-mod-pow (raw + h) (64 - b) b ∙ sym (mod-add-mod raw (2 ^ b) h))
 
   two : p ≡ h + h
   two = full ∙ twice b l ∙ ap₂ (λ (x y : ℕ). x + y) (sym half) (sym half)
@@ -60,11 +63,7 @@ module _ (b raw h p : ℕ) (l : 1 ≤ b) (u : b ≤ 32) (half : h ≡ 2 ^ (b - 1
       up-is ∙ ap (λ (x : ℕ). x % p) e ∙ digits-mod 1 below
 
   pub up-fits : up < 2 ^ 63
-  up-fits = by (ltb c h) refl
-    where
-      by : (t : Bool) → ltb c h ≡ t → up < 2 ^ 63
-      by true e = let k = ltb-true c h e in rw (up-low k) (omega (arith, two, room))
-      by false e = let k = ltb-false c h e in rw (up-high k) (omega (arith, two, room, small, full))
+  up-fits = rw full (lt-of-lt-of-le (mod-lt m (pow-pos b)) (pow-mono {j = 63} (omega arith)))
 
   half-fits : h < 2 ^ 63
   half-fits = omega (arith, two, room)

@@ -16,7 +16,7 @@ use Rattle.format.specs.Packed.{codes, values}
 use Rattle.laws.proofs.Digits.{pow-mul, getD-digits}
 use Rattle.laws.proofs.Lengths.{length-values}
 use Rattle.laws.proofs.Signs.{value-pos}
-use Rattle.bits.specs.Place.{bitsAt, Room, ReadTwo, place}
+use Rattle.bits.specs.Place.{bitsAt, Room, ReadTwo}
 use Rattle.bits.specs.declared.Pair.{Pair}
 use Rattle.bits.proofs.Steps.{value-is}
 
@@ -62,7 +62,7 @@ module _ (b : ℕ) (s : List ℕ) where
   pub room : (k p : ℕ) → 1 ≤ b → b ≤ 32 → length s ≡ 64 * b → p ≡ b * k → k < 512 → k % 2 ≡ 0 → Room s (p + b) b
   room k p l u e f h m =
       let most : k + 2 ≤ 512 = omega arith in
-      record { low = l; high = u; words = omega arith; fits = omega (arith, mul-le-mul-left b most, mul-add b k 2) }
+      record { low = l; high = u; whole = e; fits = omega (arith, mul-le-mul-left b most, mul-add b k 2) }
 
-  pub next-place : (k p : ℕ) (r : Pair) → p ≡ b * k → ReadTwo s p b r → place (r .cursor) ≡ b * (k + 2)
+  pub next-place : (k p : ℕ) (r : Pair) → p ≡ b * k → ReadTwo s p b r → r .cursor .bit ≡ b * (k + 2)
   next-place k p r e q = omega (arith, e, q .moved, mul-add b k 2)

@@ -1,18 +1,16 @@
 // Packed values, least significant bit first: bits.rs of the Rust.
 use format::Depth;
-use read_bytes::read_u32_le;
+use read_bytes::read_u64_le;
 ghost use mathlib.Core.Path.{_≡_};
-ghost use Prim.Native.Nat.{_+_, _*_, _%_, _<_, _≤_, _^_};
+ghost use Prim.Native.Nat.{_+_, _*_, _%_, _<_, _≤_, _^_, min};
 ghost use lib.ListN.{length};
 ghost use Rattle.format.specs.Numbers.{value};
 ghost use Rattle.format.specs.Packed.{values};
-ghost use Rattle.bits.specs.Place.{Held, Valid, Ready, Room, Read, ReadTwo, Filled, two, taken, takenTwo, place, origin};
+ghost use Rattle.bits.specs.Place.{Room, Window, Read, ReadTwo, two};
 
-// A place in a packed run: the bits before byte `at` that are not read yet.
+// A place in a packed run: the number of the bit that is read next.
 pub struct Cursor {
-    pub acc: u64,
-    pub have: u32,
-    pub at: usize,
+    pub bit: usize,
 }
 
 pub struct Next {
@@ -35,11 +33,11 @@ fn pow2(k: u32) -> u64
 
 // The number that the lowest `bits` bits of raw mean.
 pub fn sign_extend(raw: u64, bits: u32) -> i32
-    requires { ⌜ (1 ≤ bits) × (bits ≤ 32) × (raw < 2 ^ 63) ⌝ }
+    requires { ⌜ (1 ≤ bits) × (bits ≤ 32) ⌝ }
     ensures { λ r. ⌜ r ≡ value bits (raw % 2 ^ bits) ⌝ }
 {
     let half = pow2(bits - 1);
-    let up = (raw + half) % pow2(bits);
+    let up = std::num::wrapping_add_u64(raw, half) % pow2(bits);
     (up as i64 - half as i64) as i32
 }
 
@@ -55,96 +53,66 @@ fn two(a: Next, b: Next) -> Pair
     }
 }
 
+// Compiled as a choice of two numbers: no branch in the loops over a run but their own end.
+fn least(a: usize, b: usize) -> usize
+    ensures { λ r. ⌜ r ≡ min a b ⌝ }
+{
+    if a < b { a } else { b }
+}
+
 impl Cursor {
     pub fn start() -> Self
-        ensures { λ r. ⌜ r ≡ origin ⌝ }
+        ensures { λ r. ⌜ r .bit ≡ 0 ⌝ }
     {
-        Self {
-            acc: 0,
-            have: 0,
-            at: 0,
-        }
+        Self { bit: 0 }
     }
 
-    // The value of the lowest bits of what is held, and the rest.
-    fn taken(self, bits: u32) -> Next
-        requires { ⌜ (1 ≤ bits) × (bits ≤ 32) × (bits ≤ self .have) × (self .acc < 2 ^ 63) ⌝ }
-        ensures { λ r. ⌜ r ≡ taken self bits ⌝ }
+    // The cursor n bits on.
+    fn past(self, n: u32) -> Cursor
+        requires { ⌜ self .bit + n < 2 ^ 64 ⌝ }
+        ensures { λ r. ⌜ r .bit ≡ self .bit + n ⌝ }
     {
-        Next {
-            value: sign_extend(self.acc, bits),
-            cursor: Cursor {
-                acc: self.acc >> bits,
-                have: self.have - bits,
-                at: self.at,
-            },
-        }
-    }
-
-    // Four bytes more are held.
-    fn filled(self, run: &[u8]) -> Cursor
-        requires { ⌜ (Held (now run) self) × (self .have < 32) × (self .at + 4 ≤ length (now run)) ⌝ }
-        ensures { λ r. ⌜ Filled (now (run .entry)) self r ⌝ }
-    {
-        let at = self.at;
         Cursor {
-            acc: self.acc + ((read_u32_le(run, at) as u64) << self.have),
-            have: self.have + 32,
-            at: at + 4,
+            bit: self.bit + n as usize,
         }
     }
 
-    // The cursor with at least n bits held.
-    fn holding(self, run: &[u8], n: u32) -> Cursor
-        requires { ⌜ Valid (now run) self ⌝ }
-        requires { ⌜ Room (now run) (place self) n ⌝ }
-        ensures { λ r. ⌜ Ready (now (run .entry)) (place self) n r ⌝ }
+    // The bits from the cursor's place on, lowest first: 57 of them, or as many as there are.
+    fn window(self, run: &[u8]) -> u64
+        requires { ⌜ (8 ≤ length (now run)) × (self .bit < length (now run) * 8) ⌝ }
+        ensures { λ r. ⌜ Window (now (run .entry)) (self .bit) r ⌝ }
     {
-        if self.have < n {
-            return self.filled(run);
-        }
-        self
+        let at = least(self.bit / 8, run.len() - 8);
+        read_u64_le(run, at) >> (self.bit - 8 * at)
     }
 
     // The value at the cursor's place, and the cursor after it.
     pub fn next(self, run: &[u8], bits: u32) -> Next
-        requires { ⌜ Valid (now run) self ⌝ }
-        requires { ⌜ Room (now run) (place self) bits ⌝ }
-        ensures { λ r. ⌜ Read (now (run .entry)) (place self) bits r ⌝ }
+        requires { ⌜ Room (now run) (self .bit) bits ⌝ }
+        ensures { λ r. ⌜ Read (now (run .entry)) (self .bit) bits r ⌝ }
     {
-        self.holding(run, bits).taken(bits)
-    }
-
-    // The values of the lowest bits of what is held and of those above them, and the rest.
-    fn taken_two(self, bits: u32) -> Pair
-        requires { ⌜ (1 ≤ bits) × (bits ≤ 32) × (2 * bits ≤ self .have) × (self .acc < 2 ^ 63) ⌝ }
-        ensures { λ r. ⌜ r ≡ takenTwo self bits ⌝ }
-    {
-        let a = self.taken(bits);
-        two(a, a.cursor.taken(bits))
-    }
-
-    // The next value, and the one after it.
-    fn next_two(self, run: &[u8], bits: u32) -> Pair
-        requires { ⌜ Valid (now run) self ⌝ }
-        requires { ⌜ Room (now run) (place self + bits) bits ⌝ }
-        ensures { λ r. ⌜ ReadTwo (now (run .entry)) (place self) bits r ⌝ }
-    {
-        let a = self.next(run, bits);
-        two(a, a.cursor.next(run, bits))
+        Next {
+            value: sign_extend(self.window(run), bits),
+            cursor: self.past(bits),
+        }
     }
 
     // The two values at the cursor's place, and the cursor after them.
     pub fn pair(self, run: &[u8], bits: u32) -> Pair
-        requires { ⌜ Valid (now run) self ⌝ }
-        requires { ⌜ Room (now run) (place self + bits) bits ⌝ }
-        ensures { λ r. ⌜ ReadTwo (now (run .entry)) (place self) bits r ⌝ }
+        requires { ⌜ Room (now run) (self .bit + bits) bits ⌝ }
+        ensures { λ r. ⌜ ReadTwo (now (run .entry)) (self .bit) bits r ⌝ }
     {
-        if bits <= 16 {
-            // one look serves for both
-            return self.holding(run, 2 * bits).taken_two(bits);
+        if bits <= 28 {
+            // one window shows both
+            let w = self.window(run);
+            return Pair {
+                first: sign_extend(w, bits),
+                second: sign_extend(w >> bits, bits),
+                cursor: self.past(2 * bits),
+            };
         }
-        self.next_two(run, bits)
+        let a = self.next(run, bits);
+        two(a, a.cursor.next(run, bits))
     }
 }
 

@@ -5,25 +5,23 @@ use mathlib.Core.Path.{_≡_, refl}
 use lib.ListN.{length, length-set}
 use borrow.Author.Count.{below-none}
 use borrow.Author.Needs.{needs}
-use Rattle.bits.specs.Place.{Valid, place}
-use Rattle.bits.proofs.Steps.{at-origin}
 use Rattle.bits.proofs.Run.{Done, first-value, second-value, two-more, all-done, room, next-place}
 use Rattle.bits.proofs.packed_values.Statement.{statement}
 use Rattle.bits.proofs.packed_values.Tie as tie
 
 abbrev Inv-loop : tie.InvT-loop
 Inv-loop run bits out₀ cursor₀ k₀ out cursor k =
-    (k ≤ 512) × (k % 2 ≡ 0) × (length out ≡ 512) × Valid run cursor × (place cursor ≡ bits * k) × Done bits run out k
+    (k ≤ 512) × (k % 2 ≡ 0) × (length out ≡ 512) × (cursor .bit ≡ bits * k) × Done bits run out k
 
 abbrev μ-loop : tie.MeasureT-loop
 μ-loop run bits out₀ cursor₀ k₀ out cursor k = 512 - k
 
 loop-holds : tie.Need-loop-holds Inv-loop μ-loop
 loop-holds c =
-    (omega arith, refl, refl, rw (c .start .ensures) (at-origin (c .before .before .args .run .now)), rw (c .start .ensures, mul-zero), below-none _)
+    (omega arith, refl, refl, rw (c .start .ensures, mul-zero), below-none _)
 
 pair-requires : tie.Need-pair-requires Inv-loop μ-loop
-pair-requires c κs = (c .before .loop .inv .3, search room)
+pair-requires c κs = search room
 
 loop-again : tie.Need-loop-again Inv-loop μ-loop
 loop-again c =
@@ -32,7 +30,6 @@ loop-again c =
       omega arith,
       omega arith,
       simp length-set (at .inv .2),
-      turn .pair .ensures .valid,
       search next-place,
       search (two-more, first-value, second-value),
     )

@@ -5,9 +5,6 @@ use Rattle.bits.proofs.Steps.{pow-positive}
 use Rattle.bits.proofs.sign_extend.Statement.{statement}
 use Rattle.bits.proofs.sign_extend.Tie as tie
 
-add-up : tie.Need-add-up
-add-up c = record { fits = omega (arith, half-most _ (c .before .pre .1), c .pow2 .ensures) }
-
 rem-up : tie.Need-rem-up
 rem-up c = search pow-positive
 
@@ -15,7 +12,7 @@ cast-result : tie.Need-cast-result
 cast-result c = record { sfits = search up-fits }
 
 cast-result-2 : tie.Need-cast-result-2
-cast-result-2 c = record { sfits = omega (arith, half-most _ (c .before .before .pre .1), c .before .pow2 .ensures) }
+cast-result-2 c = record { sfits = omega (arith, half-most _ (c .before .before .before .pre .1), c .before .before .pow2 .ensures) }
 
 sub-result : tie.Need-sub-result
 sub-result c = search flat-64
@@ -32,7 +29,7 @@ sign-extend-spec =
     (tie.spec
     (λ c. search needs)
     (λ c κs. search needs)
-    add-up
+    (λ c κs. search needs)
     (λ c κs. search needs)
     rem-up
     cast-result

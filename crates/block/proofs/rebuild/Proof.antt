@@ -11,8 +11,6 @@ use mir.Val.{toZ, ofZ}
 use mir.ValLaws.{toZ-ofZ}
 use Rattle.format.specs.Numbers.{plus}
 use Rattle.format.specs.Packed.{values, rebuilt}
-use Rattle.bits.specs.Place.{Valid, place}
-use Rattle.bits.proofs.Steps.{at-origin}
 use Rattle.laws.proofs.Lengths.{length-values}
 use Rattle.bits.proofs.Run.{first-value, second-value, room, next-place}
 use Rattle.sample.proofs.Words.{given}
@@ -22,17 +20,17 @@ use Rattle.block.proofs.rebuild.Tie as tie
 
 abbrev Inv-loop : tie.InvT-loop
 Inv-loop base run bits out₀ cursor₀ x₀ k₀ out cursor x k =
-    (k ≤ 512) × (k % 2 ≡ 0) × (length out ≡ 512) × Valid run cursor × (place cursor ≡ bits * k) × Summed (toZ w32 base) (values bits run) out (toZ w32 x) k
+    (k ≤ 512) × (k % 2 ≡ 0) × (length out ≡ 512) × (cursor .bit ≡ bits * k) × Summed (toZ w32 base) (values bits run) out (toZ w32 x) k
 
 abbrev μ-loop : tie.MeasureT-loop
 μ-loop base run bits out₀ cursor₀ x₀ k₀ out cursor x k = 512 - k
 
 loop-holds : tie.Need-loop-holds Inv-loop μ-loop
 loop-holds c =
-    (omega arith, refl, refl, rw (c .start .ensures) (at-origin (c .before .before .args .run .now)), rw (c .start .ensures, mul-zero), refl)
+    (omega arith, refl, refl, rw (c .start .ensures, mul-zero), refl)
 
 pair-requires : tie.Need-pair-requires Inv-loop μ-loop
-pair-requires c κs = (c .before .loop .inv .3, search room)
+pair-requires c κs = search room
 
 loop-again : tie.Need-loop-again Inv-loop μ-loop
 loop-again c =
@@ -44,13 +42,12 @@ loop-again c =
       omega arith,
       omega arith,
       simp length-set (at .inv .2),
-      turn .pair .ensures .valid,
       search next-place,
       summed-two _ _ _ (toZ w32 (at .x)) (toZ w32 (ofZ w32 (one .result))) _ (at .k) (omega arith)
           (omega (arith, length-values (start .args .bits) (start .args .run .now)))
           (given (one .ok) (one .ensures ∙ ap (plus (toZ w32 (at .x))) (search first-value)))
           (given (two .ok) (two .ensures ∙ ap (plus (toZ w32 (ofZ w32 (one .result)))) (search second-value)))
-          (at .inv .5),
+          (at .inv .4),
     )
 
 returns : tie.Need-returns Inv-loop μ-loop
@@ -60,7 +57,7 @@ returns c =
     let vs = values (start .args .bits) (start .args .run .now) in
     summed-all (toZ w32 (ofZ w32 (start .args .base))) vs (at .out) (toZ w32 (at .x)) (at .k) (omega arith)
     (omega (arith, length-values (start .args .bits) (start .args .run .now)))
-    (at .inv .5)
+    (at .inv .4)
     ∙ ap (λ (b : ℤ). rebuilt b vs) (toZ-ofZ w32 (start .args .base) (start .fits .base))
 
 pub rebuild-spec : {M : Type 1} → statement M
