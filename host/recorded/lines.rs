@@ -1,6 +1,7 @@
 //! What the programs must print, from what the Rust answers.
 use crate::asking::{ask, Answer, Question};
 use crate::cases::Case;
+use crate::encodings::Encoding;
 
 /// The most bytes that `ncw_open` opens.
 pub const MOST: usize = 65_536;
@@ -15,9 +16,37 @@ pub fn of_spoiled() -> String {
     format!("spoiled, refused 1, changed\nspoiled, read 1 {}, changed\n", checksum(&[0x5A5A_0000]))
 }
 
+/// The line of samples that are encoded: what was written, and what reading says of it.
+pub fn of_encoding(case: &Encoding) -> String {
+    match ask(&Question::Encode(case.spec, case.mode, case.samples.clone())) {
+        Answer::Bytes(file) if case.room < file.len() => "refused 50, kept\n".to_string(),
+        Answer::Bytes(file) => {
+            let sum = checksum(
+                &file.chunks_exact(4).map(|four| i32::from_le_bytes(four.try_into().unwrap())).collect::<Vec<_>>(),
+            );
+            format!("wrote {} {sum}, kept, {}, {}, kept\n", file.len(), opened(&file), decoded(&file, usize::MAX))
+        }
+        answer => format!("{}, kept\n", refused(&answer)),
+    }
+}
+
+/// The same with bytes: the third word of a room was changed on purpose.
+pub fn of_spoiled_file() -> String {
+    format!("spoiled, refused 35, changed\nspoiled, wrote 4 {}, changed\n", checksum(&[0x5A5A_0000]))
+}
+
 /// The number by which decoding refuses, in the line of a case.
-pub fn refusal_in(line: &str) -> Option<u32> {
-    let refused = line.split(", ").nth(1)?.strip_prefix("refused ")?;
+pub fn decoding_refused(line: &str) -> Option<u32> {
+    refusal_in(line, 1)
+}
+
+/// The number by which encoding refuses, in the line of its samples.
+pub fn encoding_refused(line: &str) -> Option<u32> {
+    refusal_in(line, 0)
+}
+
+fn refusal_in(line: &str, part: usize) -> Option<u32> {
+    let refused = line.split(", ").nth(part)?.strip_prefix("refused ")?;
     refused.split(' ').next()?.parse().ok()
 }
 

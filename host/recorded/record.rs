@@ -4,6 +4,7 @@
 mod asking;
 mod blocks;
 mod cases;
+mod encodings;
 #[allow(dead_code)]
 #[path = "../definitions/faults.rs"]
 mod faults;
@@ -21,6 +22,7 @@ mod random;
 mod samples;
 
 use cases::Case;
+use encodings::Encoding;
 use std::collections::BTreeMap;
 use std::fs;
 use std::path::Path;
@@ -54,7 +56,8 @@ fn recorded() -> Vec<Recorded> {
         opening("ncw_open_large", padded(cases::float_pairs(), lines::MOST + 1)),
     ];
     let readings = cases::programs().map(|(program, cases)| reading(program, &cases));
-    openings.into_iter().chain(readings).collect()
+    let writings = encodings::programs().map(|(program, cases)| writing(program, &cases));
+    openings.into_iter().chain(readings).chain(writings).collect()
 }
 
 /// For each case 4 bytes for its length, 4 for its room, and the file.
@@ -63,6 +66,19 @@ fn reading(program: &'static str, cases: &[Case]) -> Recorded {
     let input = cases.iter().flat_map(|case| [sizes(case), case.file.clone()].concat()).collect();
     let text: String = cases.iter().map(lines::of_case).collect();
     (program, input, format!("{}{text}{} cases\n", lines::of_spoiled(), cases.len()))
+}
+
+/// For each case six numbers of 4 bytes (samples, room, channels, depth, rate, mode) and the samples.
+fn writing(program: &'static str, cases: &[Encoding]) -> Recorded {
+    let numbers = |case: &Encoding| {
+        let (counts, spec) = ([case.samples.len() as u32, case.room as u32], case.spec);
+        let settings = [spec.channels.into(), spec.bits_per_sample.into(), spec.sample_rate, case.mode as u32];
+        [&counts[..], &settings[..]].concat().into_iter().flat_map(u32::to_le_bytes).collect::<Vec<u8>>()
+    };
+    let samples = |case: &Encoding| case.samples.iter().flat_map(|sample| sample.to_le_bytes()).collect::<Vec<u8>>();
+    let input = cases.iter().flat_map(|case| [numbers(case), samples(case)].concat()).collect();
+    let text: String = cases.iter().map(lines::of_encoding).collect();
+    (program, input, format!("{}{text}{} cases\n", lines::of_spoiled_file(), cases.len()))
 }
 
 fn opening(program: &'static str, input: Vec<u8>) -> Recorded {
@@ -103,18 +119,29 @@ fn check(programs: &[Recorded], crates: &Path) {
     }
 }
 
-/// Each program's cases, with number, length and line; then how often decoding refuses by each number.
+/// Each program's cases, with their number and line; then how often decoding and encoding refuse by each number.
 fn list() {
     let mut refusals: BTreeMap<u32, usize> = BTreeMap::new();
-    let programs = cases::programs();
-    let cases = programs.iter().flat_map(|(program, cases)| cases.iter().enumerate().map(move |case| (program, case)));
-    for (program, (k, case)) in cases {
-        let line = lines::of_case(case);
-        print!("{program} {}: {}, length {}: {line}", k + 1, case.name, case.file.len());
-        if let Some(number) = lines::refusal_in(&line) {
+    let readings = cases::programs().into_iter().flat_map(|(program, cases)| {
+        numbered(program, &cases, |case| (case.name.clone(), lines::of_case(case), lines::decoding_refused))
+    });
+    let writings = encodings::programs().into_iter().flat_map(|(program, cases)| {
+        numbered(program, &cases, |case| (case.name.clone(), lines::of_encoding(case), lines::encoding_refused))
+    });
+    for (place, (name, line, refused)) in readings.chain(writings) {
+        print!("{place}: {name}: {line}");
+        if let Some(number) = refused(&line) {
             *refusals.entry(number).or_insert(0) += 1;
         }
     }
     let times: Vec<String> = refusals.iter().map(|(number, times)| format!("{number} x {times}")).collect();
     println!("refused, number x times: {}", times.join(", "));
+}
+
+/// A case's name, its line, and how the number of its refusal is found there.
+type Listed = (String, String, fn(&str) -> Option<u32>);
+
+fn numbered<T>(program: &str, cases: &[T], listed: impl Fn(&T) -> Listed) -> Vec<(String, Listed)> {
+    let places = (1..=cases.len()).map(|k| format!("{program} {k}"));
+    places.zip(cases.iter().map(listed)).collect()
 }

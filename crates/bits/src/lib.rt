@@ -24,7 +24,7 @@ pub struct Pair {
     pub cursor: Cursor,
 }
 
-fn pow2(k: u32) -> u64
+pub fn pow2(k: u32) -> u64
     requires { ⌜ k < 64 ⌝ }
     ensures { λ r. ⌜ r ≡ 2 ^ k ⌝ }
 {

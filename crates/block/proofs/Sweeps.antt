@@ -1,19 +1,23 @@
 -- A loop that goes over an array from the front, with one store a turn: what stands before k is done, and what stands from k on is yet to do.
-use Prim.Native.Nat.{ℕ, zero, suc, _+_, _<_, _≤_}
+use Prim.Native.Nat.{ℕ, zero, suc, _+_, _^_, _<_, _≤_}
 use mathlib.Core.Path.{_≡_, refl, sym, ap, ap₂, _∙_, subst}
 use mathlib.Core.List.{List, [], _∷_, _++_, append-nil}
 use native.Mathlib.Omega.{arith}
 use native.Mathlib.Numerals.{add-one}
 use lib.IntN.{ℤ, pos}
 use lib.ListN.{length, getD, set, take, drop, length-set, drop-of-length-le}
-use lib.Seq.{take-suc-set, drop-set-lt, drop-cons, append-snoc, take-all}
-use mir.Val.{Val}
+use lib.Seq.{take-suc-set, drop-set-lt, append-snoc, take-all}
+use lib.Signed.{mag}
+use mir.Syntax.{w32}
+use mir.Val.{Val, SFits, toZ, ofZ}
 use base.Fml.{Fml}
 use denote.Array.{each, inArray}
 use denote.Shadow.{shadow}
 use Rattle.format.specs.Lists.{pairwise}
 use Rattle.format.specs.Numbers.{plus}
 use Rattle.format.specs.Packed.{rebuilt}
+use Rattle.laws.proofs.Parts.{left-now}
+use Rattle.sample.proofs.Words.{called}
 
 module _ {A : Type 0} where
   -- one element more is done
@@ -23,9 +27,6 @@ module _ {A : Type 0} where
   -- and what is left is as it was
   left-more : (l : List A) (k : ℕ) (v : A) → drop (k + 1) (set l k v) ≡ drop (k + 1) l
   left-more l k v = drop-set-lt (k + 1) l k v (omega arith)
-
-  left-now : (l : List A) (k : ℕ) (d : A) → k < length l → drop k l ≡ getD l k d ∷ drop (k + 1) l
-  left-now l k d h = rw (add-one, ← drop-cons l k d h)
 
 -- ---- running sums of the values vs: x is sample k
 module _ (base : ℤ) (vs : List ℤ) where
@@ -125,3 +126,14 @@ module _ {A : Type 0} (f g : A → A → A) (n : ℕ) (c : List (List A)) where
       let hy : length y ≤ i = omega (arith, s .long₁) in
       ap₂ (λ (a b : List A). a ∷ b ∷ []) (paired-all f (pairwise f (row c 0) (row c 1)) x x y i hx hx (s .first)) (paired-all g (pairwise g (row c 0) (row c 1)) y x y i hy hx (s .second))
   split-all (x ∷ y ∷ t ∷ d) i h s = absurd (omega (arith, s .two))
+
+-- a turn's two calls, and a store in each row
+pub split-turn : (f g : ℤ → ℤ → ℤ) (n : ℕ) (c d : List (List ℤ)) (i : ℕ) (x y : ℤ) → Split f g n c d i → i < n
+    → mag (getD (getD d 0 []) i (pos 0)) < 2 ^ 31 → mag (getD (getD d 1 []) i (pos 0)) < 2 ^ 31
+    → mag x < 2 ^ 31 → x ≡ f (toZ w32 (ofZ w32 (getD (getD d 0 []) i (pos 0)))) (toZ w32 (ofZ w32 (getD (getD d 1 []) i (pos 0))))
+    → mag y < 2 ^ 31 → y ≡ g (toZ w32 (ofZ w32 (getD (getD d 0 []) i (pos 0)))) (toZ w32 (ofZ w32 (getD (getD d 1 []) i (pos 0))))
+    → (let e = set d 0 (set (getD d 0 []) i (toZ w32 (ofZ w32 x))) in Split f g n c (set e 1 (set (getD e 1 []) i (toZ w32 (ofZ w32 y)))) (i + 1))
+split-turn f g n c d i x y s h p q hx ex hy ey =
+    let l : SFits w32 (getD (getD d 0 []) i (pos 0)) = record { sfits = p } in
+    let r : SFits w32 (getD (getD d 1 []) i (pos 0)) = record { sfits = q } in
+    split-more f g n c d i (pos 0) _ _ h (called f l r hx ex) (called g l r hy ey) s

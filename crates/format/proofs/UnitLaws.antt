@@ -26,6 +26,15 @@ pub depth-unknown : (b : ℕ) → (b ≡ 8 → ⊥) → (b ≡ 16 → ⊥) → (
 unfolding depthWord
 depth-unknown b p q r s = rw (ne-eqb b 8 p, ne-eqb b 16 q, ne-eqb b 24 r, ne-eqb b 32 s)
 
+-- the depth that a word names, by what reading it answered
+pub depth-named : (b : ℕ) (w : DepthWord) (d : Depth) → w ≡ depthWord b → w ≡ Known d → d ≡ depthOf b
+unfolding depthOf
+depth-named b w d e t = ap orWidest (sym t ∙ e)
+
+pub depth-unnamed : (b : ℕ) (w : DepthWord) → w ≡ depthWord b → w ≡ Unknown → ThirtyTwo ≡ depthOf b
+unfolding depthOf
+depth-unnamed b w e t = ap orWidest (sym t ∙ e)
+
 -- a number is that of the depth which it names
 pub depth-bits : (b : ℕ) → isDepth b ≡ true → bitsIn (depthOf b) ≡ b
 unfolding isDepth depthOf depthWord

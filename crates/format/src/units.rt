@@ -1,6 +1,6 @@
 // Document 01, "The units".
 ghost use mathlib.Core.Path.{_≡_};
-ghost use Rattle.format.specs.Units.{depthWord, bitsIn, bytesIn, lowest, highest, samplesIn, framesIn};
+ghost use Rattle.format.specs.Units.{depthWord, depthOf, bitsIn, bytesIn, lowest, highest, samplesIn, framesIn};
 
 // A sample depth: its range, its bytes, and the sizes that no depth changes.
 pub enum Depth {
@@ -32,6 +32,16 @@ impl Depth {
             24 => DepthWord::Known(Depth::TwentyFour),
             32 => DepthWord::Known(Depth::ThirtyTwo),
             _ => DepthWord::Unknown,
+        }
+    }
+
+    // The depth that a word names; where it names none, the widest.
+    pub fn of(bits: u16) -> Depth
+        ensures { λ r. ⌜ r ≡ depthOf bits ⌝ }
+    {
+        match Depth::from_bits(bits) {
+            DepthWord::Known(d) => d,
+            DepthWord::Unknown => Depth::ThirtyTwo,
         }
     }
 

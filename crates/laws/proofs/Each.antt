@@ -1,10 +1,13 @@
--- What holds of each element of lists holds of their parts, and of them joined.
-use Prim.Native.Nat.{ℕ, zero, suc, _+_, _<_}
+-- What holds of each element of lists holds of their parts, and of them joined; a test of each element, one after another.
+use Prim.Native.Nat.{ℕ, zero, suc, _+_, _<_, _≤_}
+use mathlib.Core.Path.{_≡_, sym, ap, ap₂, _∙_}
+use mathlib.Core.Bool.{Bool, true, false, _&&_}
 use mathlib.Core.List.{List, [], _∷_, _++_}
 use native.Mathlib.Omega.{arith}
-use lib.ListN.{getD, take, drop, replicate}
-use lib.Seq.{getD-drop}
-use Rattle.format.specs.Lists.{tab, joined, from}
+use native.Mathlib.Numerals.{add-one}
+use lib.ListN.{length, getD, take, drop, replicate, drop-of-length-le}
+use lib.Seq.{getD-drop, drop-cons}
+use Rattle.format.specs.Lists.{tab, joined, from, every}
 
 -- P of each element, and of d, which stands past the end
 abbrev pub Each : {A : Type 0} → (A → Type 0) → A → List A → Type 0
@@ -44,3 +47,15 @@ module _ {A : Type 0} (P : A → Type 0) (d : A) (pd : P d) where
   unfolding joined
   each-joined Q zero h = λ i. pd
   each-joined Q (suc n) h = each-append (joined Q n) (Q n) (each-joined Q n (λ k l. h k (omega arith))) (h n (omega arith))
+
+-- ---- every element has p: so had all before i, if ok, and so have those from i on
+module _ {A : Type 0} (p : A → Bool) (s : List A) {t : Bool} (i : ℕ) where
+  pub every-turn : (z : A) (ok : Bool) {o : Bool} → i < length s → o ≡ p (getD s i z) → (ok && every p (drop i s)) ≡ t → ((ok && o) && every p (drop (i + 1) s)) ≡ t
+  unfolding every
+  every-turn z true h e q = ap₂ (λ (b : Bool) (k : ℕ). b && every p (drop k s)) e (add-one i) ∙ sym (ap (every p) (drop-cons s i z h)) ∙ q
+  every-turn z false h e q = q
+
+  pub every-done : (ok : Bool) → length s ≤ i → (ok && every p (drop i s)) ≡ t → ok ≡ t
+  unfolding every
+  every-done true h q = rw (drop-of-length-le s h) at q
+  every-done false h q = q

@@ -32,13 +32,24 @@ mag-sub H a b h f g =
     mag-up (H + H) (a -ℤ b) (omega arith) (omega (arith, up-sub a b (omega arith) (omega arith), up-low H a f, up-high H b g))
     (omega (arith, up-sub a b (omega arith) (omega arith), up-high H a f, up-low H b g))
 
-half-le : (q n : ℕ) → q + q ≤ suc n → mag (negℤ (pos q)) ≤ n
-half-le zero n h = omega arith
-half-le (suc q) n h = omega arith
+-- half of what lies under twice H lies under H
+half-under : (H q n : ℕ) → q + q ≤ suc n → n < H + H → mag (negℤ (pos q)) < H
+half-under H zero n h b = omega arith
+half-under H (suc q) n h b = omega arith
 
-pub mag-half : (z : ℤ) → mag (quotZ z (pos 2)) ≤ mag z
-mag-half (pos n) = omega arith
-mag-half (negsuc n) = half-le (suc n / 2) n (omega arith)
+half-range : (H : ℕ) (z : ℤ) → mag z < H + H → mag (quotZ z (pos 2)) < H
+half-range H (pos n) h = omega arith
+half-range H (negsuc n) h = half-under H (suc n / 2) n (omega arith) h
+
+-- mid and side of l and r below H lie there too
+module _ (H : ℕ) (top : H ≤ 2 ^ 31) (l r : ℤ) (f : mag l < H) (g : mag r < H) where
+  pub mid-range : mag (mid l r) < H
+  unfolding mid
+  mid-range = half-range H (l +ℤ r) (mag-add H l r (omega arith) f g)
+
+  pub side-range : mag (side l r) < H
+  unfolding side
+  side-range = half-range H (l -ℤ r) (mag-sub H l r (omega arith) f g)
 
 -- numbers of equal parity have an even sum
 even-sum : (l r : ℤ) → mag l < 2 ^ 38 → mag r < 2 ^ 38 → natAbs l % 2 ≡ natAbs r % 2 → up (l +ℤ r) % 2 ≡ 0
@@ -53,13 +64,11 @@ module _ (H : ℕ) (top : H ≤ 2 ^ 31) (l r : ℤ) (f : mag l < H) (g : mag r <
   unfolding equalParity
   even = even-sum l r (omega arith) (omega arith) (eqb-true (natAbs l % 2) (natAbs r % 2) eq)
 
-  mid-small : mag (mid l r) < 2 ^ 38
-  unfolding mid
-  mid-small = omega (arith, mag-half (l +ℤ r), mag-add (2 ^ 31) l r (omega arith) (omega arith) (omega arith))
+  low-mid : mag (mid l r) < H
+  low-mid = mid-range H top l r f g
 
-  side-small : mag (side l r) < 2 ^ 38
-  unfolding side
-  side-small = omega (arith, mag-half (l -ℤ r), mag-sub (2 ^ 31) l r (omega arith) (omega arith) (omega arith))
+  low-side : mag (side l r) < H
+  low-side = side-range H top l r f g
 
   mid-twice : up (mid l r) + up (mid l r) ≡ up l + up r
   unfolding mid
@@ -77,24 +86,13 @@ module _ (H : ℕ) (top : H ≤ 2 ^ 31) (l r : ℤ) (f : mag l < H) (g : mag r <
       let e = even in
       omega (arith, up-half (l -ℤ r) (omega arith) (omega arith))
 
-  -- they lie in the same range
-  pub mid-range : mag (mid l r) < H
-  mid-range =
-      let e = mid-twice in
-      mag-up H (mid l r) (omega arith) (omega (arith, up-low H l f, up-low H r g)) (omega (arith, up-high H l f, up-high H r g))
-
-  pub side-range : mag (side l r) < H
-  side-range =
-      let e = side-twice in
-      mag-up H (side l r) (omega arith) (omega (arith, up-low H l f, up-high H r g)) (omega (arith, up-high H l f, up-low H r g))
-
   pub left-back : left Pcm (mid l r) (side l r) ≡ l
   unfolding left
   left-back =
       let m = mid l r in
       let s = side l r in
-      let a = up-add m s mid-small side-small in
-      let e : m +ℤ s ≡ l = up-inj (m +ℤ s) l (omega (arith, mag-add (2 ^ 31) m s (omega arith) (omega (arith, mid-range)) (omega (arith, side-range)))) (omega arith) (omega (arith, mid-twice, side-twice)) in
+      let a = up-add m s (omega (arith, low-mid)) (omega (arith, low-side)) in
+      let e : m +ℤ s ≡ l = up-inj (m +ℤ s) l (omega (arith, mag-add (2 ^ 31) m s (omega arith) (omega (arith, low-mid)) (omega (arith, low-side)))) (omega arith) (omega (arith, mid-twice, side-twice)) in
       ap wrap32 e ∙ wrap-fits l (record { sfits = omega arith })
 
   pub right-back : right Pcm (mid l r) (side l r) ≡ r
@@ -102,16 +100,16 @@ module _ (H : ℕ) (top : H ≤ 2 ^ 31) (l r : ℤ) (f : mag l < H) (g : mag r <
   right-back =
       let m = mid l r in
       let s = side l r in
-      let a = up-sub m s mid-small side-small in
-      let e : m -ℤ s ≡ r = up-inj (m -ℤ s) r (omega (arith, mag-sub (2 ^ 31) m s (omega arith) (omega (arith, mid-range)) (omega (arith, side-range)))) (omega arith) (omega (arith, mid-twice, side-twice)) in
+      let a = up-sub m s (omega (arith, low-mid)) (omega (arith, low-side)) in
+      let e : m -ℤ s ≡ r = up-inj (m -ℤ s) r (omega (arith, mag-sub (2 ^ 31) m s (omega arith) (omega (arith, low-mid)) (omega (arith, low-side)))) (omega arith) (omega (arith, mid-twice, side-twice)) in
       ap wrap32 e ∙ wrap-fits r (record { sfits = omega arith })
 
 -- where mid is the half of the sum, side is that of the difference
 pub side-follows : (H : ℕ) → H ≤ 2 ^ 31 → (l r m s : ℤ) → mag l < H → mag r < H → equalParity l r ≡ true → SFits w32 s → mid l r ≡ m → left Pcm m s ≡ l → side l r ≡ s
 unfolding left
 side-follows H top l r m s f g eq fs em el =
-    let a = mid-range H top l r f g eq in
-    let b = side-range H top l r f g eq in
+    let a = mid-range H top l r f g in
+    let b = side-range H top l r f g in
     let q : plus (mid l r) (side l r) ≡ plus (mid l r) s = left-back H top l r f g eq ∙ sym el ∙ ap (λ (x : ℤ). plus x s) (sym em) in
     plus-inj (mid l r) (side l r) s (record { sfits = omega arith }) (record { sfits = omega arith }) fs q
 
@@ -145,19 +143,18 @@ module _ (depth : ℕ) (high : depth ≤ 32) where
   top = pow-mono {j = 31} (omega arith)
 
   -- what holds of each pair holds of the channels
-  pub pairs-hold : (f : ℤ → ℤ → ℤ) → ((x y : ℤ) → Holds depth x → Holds depth y → equalParity x y ≡ true → Holds depth (f x y))
-      → (l r : List ℤ) → AllHold depth l → AllHold depth r → Even l r → AllHold depth (pairwise f l r)
+  pairs-hold : (f : ℤ → ℤ → ℤ) → ((x y : ℤ) → Holds depth x → Holds depth y → Holds depth (f x y)) → (l r : List ℤ) → AllHold depth l → AllHold depth r → AllHold depth (pairwise f l r)
   unfolding pairwise
-  pairs-hold f h [] r p q e i = pow-pos (depth - 1)
-  pairs-hold f h (x ∷ l) [] p q e i = pow-pos (depth - 1)
-  pairs-hold f h (x ∷ l) (y ∷ r) p q e zero = h x y (p 0) (q 0) (even-head x y l r e)
-  pairs-hold f h (x ∷ l) (y ∷ r) p q e (suc i) = pairs-hold f h l r (λ j. p (suc j)) (λ j. q (suc j)) (even-tail x y l r e) i
+  pairs-hold f h [] r p q i = pow-pos (depth - 1)
+  pairs-hold f h (x ∷ l) [] p q i = pow-pos (depth - 1)
+  pairs-hold f h (x ∷ l) (y ∷ r) p q zero = h x y (p 0) (q 0)
+  pairs-hold f h (x ∷ l) (y ∷ r) p q (suc i) = pairs-hold f h l r (λ j. p (suc j)) (λ j. q (suc j)) i
 
-  pub mid-holds : (l r : List ℤ) → AllHold depth l → AllHold depth r → Even l r → AllHold depth (pairwise mid l r)
-  mid-holds = pairs-hold mid (λ x y p q e. mid-range (2 ^ (depth - 1)) top x y p q e)
+  pub mid-holds : (l r : List ℤ) → AllHold depth l → AllHold depth r → AllHold depth (pairwise mid l r)
+  mid-holds = pairs-hold mid (mid-range (2 ^ (depth - 1)) top)
 
-  pub side-holds : (l r : List ℤ) → AllHold depth l → AllHold depth r → Even l r → AllHold depth (pairwise side l r)
-  side-holds = pairs-hold side (λ x y p q e. side-range (2 ^ (depth - 1)) top x y p q e)
+  pub side-holds : (l r : List ℤ) → AllHold depth l → AllHold depth r → AllHold depth (pairwise side l r)
+  side-holds = pairs-hold side (side-range (2 ^ (depth - 1)) top)
 
   pub lefts-back : (l r : List ℤ) → length l ≡ length r → AllHold depth l → AllHold depth r → Even l r → pairwise (left Pcm) (pairwise mid l r) (pairwise side l r) ≡ l
   unfolding pairwise

@@ -10,12 +10,18 @@ pub mod Digits
 pub mod Signs
 pub mod Marks
 pub mod Wrap
+pub mod Widths
 pub mod Up
 pub mod Halves
 pub mod SampleBytes
+-- channels of samples: taken apart, as mid and side, and what the writers' checks tell of them
+pub mod Channels
+pub mod Stereo
+pub mod SampleChecks
 -- a file that opens, a group that passes; how much is read and written; what a function that reads cites
 pub mod Opened
 pub mod Passed
 pub mod Lengths
 pub mod Written
+pub mod Over
 pub mod Reading

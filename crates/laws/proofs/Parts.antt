@@ -8,13 +8,17 @@ use native.Mathlib.Nat.{mul-suc, mul-zero}
 use native.Mathlib.Decide.{decLt}
 use native.Mathlib.Numerals.{add-one}
 use lib.ListN.{length, getD, take, drop, length-append, length-drop}
-use lib.Seq.{take-at, drop-at, take-add, take-take, drop-drop, ext-getD, drop-append-add, drop-append-le, take-append-le, length-take-le}
+use lib.Seq.{take-at, drop-at, drop-cons, take-add, take-take, drop-drop, ext-getD, drop-append-add, drop-append-le, take-append-le, length-take-le}
 use Rattle.format.specs.Lists.{tab, joined, from}
 
 pub below-suc : (k n : ℕ) → k < suc n → (k ≡ n) ⊎ (k < n)
 below-suc k n l = elim (decLt k n) [ yes h ↦ inr h | no h ↦ inl (omega arith) ]
 
 module _ {A : Type 0} where
+  -- the element at k, and those after it
+  pub left-now : (l : List A) (k : ℕ) (d : A) → k < length l → drop k l ≡ getD l k d ∷ drop (k + 1) l
+  left-now l k d h = rw (add-one, ← drop-cons l k d h)
+
   pub length-tab : (n : ℕ) (f : ℕ → A) → length (tab n f) ≡ n
   unfolding tab
   length-tab zero f = refl

@@ -1,7 +1,7 @@
 -- Lent samples: what each container holds, and what a store does.
 use mathlib.Core.Path.{_≡_, refl, sym, ap, _∙_}
 use mathlib.Core.List.{List, [], _∷_, append-assoc}
-use Prim.Native.Nat.{ℕ, suc, _+_, _-_, _*_, _/_, _%_, _^_, _<_, _≤_}
+use Prim.Native.Nat.{ℕ, suc, _+_, _-_, _*_, _/_, _^_, _<_, _≤_}
 use native.Mathlib.Decide.{decLt, ℕ-discrete}
 use native.Mathlib.Omega.{arith}
 use lib.IntN.{ℤ, pos}
@@ -11,7 +11,7 @@ use mir.Syntax.{w32}
 use mir.Val.{toZ, ofZ, SFits}
 use mir.ValLaws.{toZ-ofZ}
 use Rattle.format.specs.Lists.{from}
-use Rattle.format.specs.Numbers.{num, digits, le, numAt, value, codeOf}
+use Rattle.format.specs.Numbers.{num, le, numAt, value, codeOf}
 use Rattle.format.specs.Boundary.{samplesFrom}
 use Rattle.laws.proofs.Parts.{length-tab, getD-tab, is-tab}
 use Rattle.laws.proofs.Digits.{length-le, num-at}
@@ -37,13 +37,6 @@ module _ {A : Type 0} where
   drop-sets (a ∷ vs) l i n h = drop-sets vs (set l i a) (suc i) n (omega arith) ∙ drop-set-lt n l i a (omega arith)
 
 -- ---- the bytes
-pub le-four : (n : ℕ) → n < 2 ^ 32 → le 4 n ≡ n % 256 ∷ n / 256 % 256 ∷ n / 65536 % 256 ∷ n / 16777216 ∷ []
-unfolding le digits
-le-four n h =
-    let p : n / 256 / 256 ≡ n / 65536 = omega arith in
-    let q : n / 65536 / 256 % 256 ≡ n / 16777216 = omega arith in
-    rw (p, q)
-
 pub length-lent : (b : List ℕ) → length (samplesFrom b) ≡ length b / 4
 unfolding samplesFrom
 length-lent b = length-tab _ _
@@ -111,6 +104,14 @@ module _ {k : Container} (w : List ℤ) (b : List ℕ) where
 
     pub bytes-in : k ≡ Bytes → i < length b / 4
     bytes-in e = rw (← count-bytes e) at h
+
+    pub words-say : k ≡ Words → getD w i (pos 0) ≡ getD (lentOf k w b) i (pos 0)
+    words-say e = rw e
+
+    pub bytes-say : k ≡ Bytes → {n : ℕ} {v : ℤ} → n ≡ numAt (i * 4) 4 b → v ≡ value 32 n → v ≡ getD (lentOf k w b) i (pos 0)
+    bytes-say e p q =
+        let m : i * 4 ≡ 4 * i = omega arith in
+        q ∙ ap (value 32) (p ∙ ap (λ (j : ℕ). numAt j 4 b) m) ∙ sym (rw (in-bytes e) (lent-at b i (bytes-in e)))
 
     pub words-put : k ≡ Words → (v : ℤ) → lentOf k (set w i v) b ≡ set (lentOf k w b) i v
     words-put e v = rw e

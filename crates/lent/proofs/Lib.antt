@@ -3,3 +3,6 @@ pub mod Weave
 pub mod Laws
 pub mod Runs
 pub mod Outcome
+-- padding by a loop; a range, and a channel of frames
+pub mod Padding
+pub mod Taken

@@ -5,6 +5,7 @@ use Prim.Native.Nat.{ℕ, suc, _+_, _*_, _<_, _≤_}
 use native.Mathlib.Nat.{add-mul, suc-mul, zero-mul, mul-le-mul-left}
 use native.Mathlib.Omega.{arith}
 use native.Mathlib.Numerals.{add-one}
+use lib.Arith.{digits-lt}
 use lib.IntN.{ℤ, pos}
 use lib.ListN.{length, getD, set, drop, length-drop, length-append}
 use lib.Seq.{take-suc, getD-drop}
@@ -16,6 +17,10 @@ use Rattle.lent.proofs.Weave.{length-woven, placed-none, placed-more}
 -- ---- one channel
 pub frame-le : (f ch c : ℕ) → c < ch → f ≤ f * ch + c
 frame-le f ch c h = let g : 1 ≤ ch = omega arith in omega (arith, mul-le-mul-left f g)
+
+-- where frame k of the n from `first` on has channel c
+pub place-in : {m : ℕ} (first n k ch c : ℕ) → k < n → c < ch → (first + n) * ch ≤ m → (first + k) * ch + c < m
+place-in first n k ch c g h l = let p : first + k < first + n = omega arith in omega (arith, digits-lt p h)
 
 pub strided-none : (s : List ℤ) (p step skip : ℕ) (run : List ℤ) → s ≡ strided s p step (from skip 0 run)
 unfolding strided from

@@ -34,3 +34,7 @@ strided s p step (x ∷ xs) = strided (set s p x) (p + step) step xs
 -- the n frames of the channels from the frame `skip` on, interleaved
 unfoldable pub wovenFrom : ℕ → ℕ → List (List ℤ) → List ℤ
 wovenFrom skip n chans = joined (λ i. map (λ (ch : List ℤ). getD ch (skip + i) (pos 0)) chans) n
+
+-- the n frames of so many channels from the frame `first` on, interleaved
+unfoldable pub framesFrom : ℕ → ℕ → ℕ → List ℤ → List ℤ
+framesFrom channels first n s = from (first * channels) (n * channels) s

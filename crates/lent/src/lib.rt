@@ -1,25 +1,20 @@
-// Samples lent as numbers, or as bytes, four to a sample: only `count` and `put_sample` look at which.
+// Samples lent as numbers, or as bytes, four to a sample: only `count`, `put_sample` and `sample_at` look at which.
+mod taking;
+
+pub use taking::all_within;
+pub use taking::channel;
+pub use taking::sample_at;
+pub use taking::split;
+use write_bytes::put_u32_le;
 ghost use mathlib.Core.Path.{_≡_};
 ghost use Prim.Native.Nat.{_+_, _*_, _<_, _≤_};
 ghost use lib.ListN.{length, set};
-ghost use lib.Seq.{sets};
 ghost use Rattle.format.specs.Lists.{from};
-ghost use Rattle.format.specs.Numbers.{le};
 ghost use Rattle.lent.specs.Lent.{lentOf, restOf, placed, strided, wovenFrom};
 
 pub enum Container {
     Words,
     Bytes,
-}
-
-fn put_word(s: &mut [u8], at: usize, n: u32)
-    requires { ⌜ at + 4 ≤ length (now s) ⌝ }
-    ensures { λ _. ⌜ now (s .exit) ≡ sets (now (s .entry)) at (le 4 n) ⌝ }
-{
-    s[at] = (n % 256) as u8;
-    s[at + 1] = (n / 256 % 256) as u8;
-    s[at + 2] = (n / 65536 % 256) as u8;
-    s[at + 3] = (n / 16777216) as u8;
 }
 
 // How many samples are lent.
@@ -41,7 +36,7 @@ pub fn put_sample(which: Container, words: &mut [i32], bytes: &mut [u8], i: usiz
         Container::Words => {
             words[i] = v;
         }
-        Container::Bytes => put_word(bytes, i * 4, sample::bits_of(v)),
+        Container::Bytes => put_u32_le(bytes, i * 4, sample::bits_of(v)),
     }
 }
 

@@ -4,6 +4,8 @@ use mathlib.Core.Path.{_≡_, sym, ap, _∙_}
 use mathlib.Core.List.{List}
 use mathlib.Core.Bool.{true, false}
 use native.Mathlib.Omega.{arith}
+use lib.ListN.{length}
+use lib.IntN.{ℤ}
 use mir.Syntax.{w64}
 use mir.Val.{Fits}
 use Rattle.format.specs.Numbers.{Below}
@@ -13,16 +15,19 @@ use Rattle.format.specs.Refusals.{number, _then_}
 use Rattle.format.specs.Answers.{answered}
 use Rattle.format.specs.Opening.{checkOpen, headerOf, openOf}
 use Rattle.format.specs.Decoding.{checkDecode, decodedCount, checkRoom, decodeOf}
+use Rattle.format.specs.Encoding.{fileOf, checkEncodeInto, encodeOf}
 use Rattle.format.specs.Boundary.{result}
 use Rattle.format.specs.declared.units.Frames.{Frames}
 use Rattle.format.specs.declared.units.Samples.{Samples}
 use Rattle.format.specs.declared.refusals.Refusal.{Refusal}
 use Rattle.format.specs.declared.refusals.Checked.{Checked}
 use Rattle.format.specs.declared.refusals.Checked.the-variants.{Fine, No}
+use Rattle.format.specs.declared.settings.PcmSpec.{PcmSpec}
+use Rattle.format.specs.declared.settings.StereoMode.{StereoMode}
 use Rattle.format.specs.declared.answers.Header.{Header}
 use Rattle.format.specs.declared.answers.Answer.{Answer}
 use Rattle.format.specs.declared.answers.Outcome.{Outcome}
-use Rattle.format.specs.declared.answers.Outcome.the-variants.{Opened, Read, Refused}
+use Rattle.format.specs.declared.answers.Outcome.the-variants.{Opened, Read, Wrote, Refused}
 use Rattle.format.proofs.UnitLaws.{product-below}
 use Rattle.laws.proofs.Tests.{never}
 use Rattle.laws.proofs.Reading.{number-lt}
@@ -48,21 +53,29 @@ opened-fits f channels n e h c = record { fits = omega (arith, ap (λ (m : Sampl
 pub read-fits : (o : Outcome) (n : Samples) → ((m : Samples) → o ≡ Read m → 4 * m .0 < 2 ^ 64) → o ≡ Read n → Fits w64 (4 * n .0)
 read-fits o n few e = record { fits = few n e }
 
+-- what is answered counts samples that were read only where it is so on success
+reads-few : (k : Checked) (o : Outcome) (n : Samples) → (o ≡ Read n → 4 * n .0 < 2 ^ 64) → answered k o .outcome ≡ Read n → 4 * n .0 < 2 ^ 64
+reads-few Fine o n few q = few q
+reads-few (No r) o n few q = let none : true ≡ false = cc in never none
+
+pub refused-reads-none : (r : Refusal) (n : Samples) → Refused r ≡ Read n → 4 * n .0 < 2 ^ 64
+refused-reads-none r n q = let none : true ≡ false = cc in never none
+
 pub open-reads-none : (s : List ℕ) (a : Answer) → a ≡ openOf s → (n : Samples) → a .outcome ≡ Read n → 4 * n .0 < 2 ^ 64
 unfolding openOf
-open-reads-none s a e n p = by (checkOpen s) (sym (ap (λ (x : Answer). x .outcome) e) ∙ p)
-  where
-    by : (k : Checked) → answered k (Opened (headerOf s)) .outcome ≡ Read n → 4 * n .0 < 2 ^ 64
-    by Fine q = let none : true ≡ false = cc in never none
-    by (No r) q = let none : true ≡ false = cc in never none
+open-reads-none s a e n p = reads-few (checkOpen s) (Opened (headerOf s)) n (λ q. let none : true ≡ false = cc in never none) (sym (ap (λ (x : Answer). x .outcome) e) ∙ p)
 
 pub decode-reads-few : (s : List ℕ) (room : ℕ) (a : Answer) → Below 256 s → a ≡ decodeOf s room → (n : Samples) → a .outcome ≡ Read n → 4 * n .0 < 2 ^ 64
 unfolding decodeOf fieldsOf
-decode-reads-few s room a byte e n p = by (checkDecode s then checkRoom s room) (sym (ap (λ (x : Answer). x .outcome) e) ∙ p)
+decode-reads-few s room a byte e n p = reads-few (checkDecode s then checkRoom s room) (Read (decodedCount s)) n few (sym (ap (λ (x : Answer). x .outcome) e) ∙ p)
   where
-    few : 4 * decodedCount s .0 < 2 ^ 64
-    few = counts-lt (fieldsOf s .frames) (fieldsOf s .channels) (number-lt 16 4 s byte) (number-lt 8 2 s byte)
+    few : Read (decodedCount s) ≡ Read n → 4 * n .0 < 2 ^ 64
+    few q =
+        let e : decodedCount s ≡ n = cc in
+        omega (arith, counts-lt (fieldsOf s .frames) (fieldsOf s .channels) (number-lt 16 4 s byte) (number-lt 8 2 s byte), ap (λ (m : Samples). m .0) e)
 
-    by : (k : Checked) → answered k (Read (decodedCount s)) .outcome ≡ Read n → 4 * n .0 < 2 ^ 64
-    by Fine q = let e : decodedCount s ≡ n = cc in omega (arith, few, ap (λ (m : Samples). m .0) e)
-    by (No r) q = let none : true ≡ false = cc in never none
+pub encode-reads-none :
+    (p : PcmSpec) (mode : StereoMode) (s : List ℤ) (room : ℕ) (a : Answer) → a ≡ encodeOf p mode s room → (n : Samples) → a .outcome ≡ Read n → 4 * n .0 < 2 ^ 64
+unfolding encodeOf
+encode-reads-none p mode s room a e n q =
+    reads-few (checkEncodeInto p mode s room) (Wrote (length (fileOf p mode s))) n (λ w. let none : true ≡ false = cc in never none) (sym (ap (λ (x : Answer). x .outcome) e) ∙ q)

@@ -1,12 +1,15 @@
 // The host boundary, on numbers and byte slices: samples are 4 little-endian bytes each.
 use format::Outcome;
+use format::PcmSpec;
+use format::Refusal;
+use format::StereoMode;
 use lent::Container;
 ghost use mathlib.Core.Path.{_≡_};
 ghost use Prim.Native.Nat.{_*_, _<_, _^_};
 ghost use lib.ListN.{length};
 ghost use Rattle.format.specs.declared.units.Samples.{Samples};
 ghost use Rattle.format.specs.declared.answers.Outcome.the-variants.{Read};
-ghost use Rattle.format.specs.Boundary.{result, hostOpen, hostDecode, hostDecodeInto};
+ghost use Rattle.format.specs.Boundary.{modeOf, result, hostOpen, hostDecode, hostDecodeInto, hostEncode, hostEncodeInto};
 
 // The length in bytes (for opening, what decoding would write), or 2^63 plus the refusal number.
 fn result(outcome: Outcome) -> u64
@@ -40,6 +43,45 @@ pub extern "C" fn ncw_decode(file: &[u8], samples: &mut [u8]) -> u64
     ensures puts { λ _. ⌜ now (samples .exit) ≡ hostDecodeInto (now (file .entry)) (now (samples .entry)) ⌝ }
 {
     let answer = reader::decode_lent(Container::Bytes, file, &mut [], samples);
+    let outcome = answer.outcome;
+    result(outcome)
+}
+
+// 0 Auto, 1 Direct, 2 MidSide.
+fn mode_of(mode: u32) -> StereoMode
+    ensures { λ r. ⌜ r ≡ modeOf mode ⌝ }
+{
+    match mode {
+        0 => StereoMode::Auto,
+        1 => StereoMode::Direct,
+        _ => StereoMode::MidSide,
+    }
+}
+
+#[no_mangle]
+pub extern "C" fn ncw_encode(
+    samples: &[u8],
+    channels: u16,
+    depth: u16,
+    rate: u32,
+    mode: u32,
+    file: &mut [u8],
+) -> u64
+    ensures answers { λ r. ⌜ r ≡ hostEncode (now (samples .entry)) (record { channels = channels; «bits_per_sample» = depth; «sample_rate» = rate }) mode (length (now (file .entry))) ⌝ }
+    ensures puts { λ _. ⌜ now (file .exit) ≡ hostEncodeInto (now (samples .entry)) (record { channels = channels; «bits_per_sample» = depth; «sample_rate» = rate }) mode (now (file .entry)) ⌝ }
+{
+    if 3 <= mode {
+        return result(Outcome::Refused(Refusal::UnknownMode));
+    }
+    if samples.len() % 4 != 0 {
+        return result(Outcome::Refused(Refusal::SampleBytes));
+    }
+    let p = PcmSpec {
+        channels,
+        bits_per_sample: depth,
+        sample_rate: rate,
+    };
+    let answer = writer::encode_lent(Container::Bytes, &[], samples, p, mode_of(mode), file);
     let outcome = answer.outcome;
     result(outcome)
 }

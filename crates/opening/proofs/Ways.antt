@@ -1,23 +1,18 @@
 -- What opening answers at each way out, from what the calls' contracts and the matches give.
 use Prim.Native.Nat.{ℕ, _+_, _*_, _<_, _≤_}
-use mathlib.Core.Path.{_≡_, sym, ap, _∙_}
+use mathlib.Core.Path.{_≡_, sym, _∙_}
 use mathlib.Core.Bool.{Bool, true, false}
 use mathlib.Core.List.{List}
 use native.Mathlib.Omega.{arith}
 use lib.ListN.{length}
 use borrow.Author.Tests.{lt-ltb, le-ltb}
 use Rattle.format.specs.Header.{isSignature, fieldsOf, groupsOf}
-use Rattle.format.specs.Units.{depthWord, orWidest, depthOf}
 use Rattle.format.specs.Refusals.{refuse, _then_}
 use Rattle.format.specs.Opening.{checkFields, checkOffsets, checkTable, checkFirst, checkOpen, headerOf, openOf}
 use Rattle.format.specs.declared.refusals.Refusal.{Refusal}
 use Rattle.format.specs.declared.refusals.Refusal.the-variants.{TooShort, FileSignature}
 use Rattle.format.specs.declared.refusals.Checked.{Checked}
 use Rattle.format.specs.declared.refusals.Checked.the-variants.{Fine, No}
-use Rattle.format.specs.declared.units.Depth.{Depth}
-use Rattle.format.specs.declared.units.Depth.the-variants.{ThirtyTwo}
-use Rattle.format.specs.declared.units.DepthWord.{DepthWord}
-use Rattle.format.specs.declared.units.DepthWord.the-variants.{Known, Unknown}
 use Rattle.format.specs.declared.answers.Fields.{Fields}
 use Rattle.format.specs.declared.answers.Header.{Header}
 use Rattle.format.specs.declared.answers.Outcome.the-variants.{Opened, Refused}
@@ -68,14 +63,6 @@ pub in-first :
 in-first s h a b d ea ta eb tb ed td = first-within s h (sym ea ∙ ta) (sym eb ∙ tb) (sym ed ∙ td)
 
 -- ---- the answer
-
-pub depth-known : (b : ℕ) (w : DepthWord) (d : Depth) → w ≡ depthWord b → w ≡ Known d → d ≡ depthOf b
-unfolding depthOf
-depth-known b w d e t = ap orWidest (sym t ∙ e)
-
-pub depth-unknown : (b : ℕ) (w : DepthWord) → w ≡ depthWord b → w ≡ Unknown → ThirtyTwo ≡ depthOf b
-unfolding depthOf
-depth-unknown b w e t = ap orWidest (sym t ∙ e)
 
 module _ (s : List ℕ) (a : Checked) (checked : a ≡ checkOpen s) where
   pub refused : (r : Refusal) → a ≡ No r → record { outcome = Refused r } ≡ openOf s

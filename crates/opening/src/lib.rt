@@ -3,7 +3,6 @@ use block::BlockHeader;
 use format::Answer;
 use format::Checked;
 use format::Depth;
-use format::DepthWord;
 use format::Fields;
 use format::Frames;
 use format::Header;
@@ -14,7 +13,6 @@ ghost use mathlib.Core.Path.{_≡_};
 ghost use Prim.Native.Nat.{_+_, _≤_};
 ghost use lib.ListN.{length};
 ghost use Rattle.format.specs.Header.{fieldsOf, groupsOf};
-ghost use Rattle.format.specs.Units.{depthOf};
 ghost use Rattle.format.specs.Opening.{checkFirst, formatOf, checkOpen, headerOf, openOf};
 ghost use Rattle.format.specs.declared.refusals.Checked.the-variants.{Fine};
 
@@ -72,15 +70,6 @@ pub fn format_of(s: &[u8], h: Fields) -> SampleFormat
     }
 }
 
-fn depth_of(bits: u16) -> Depth
-    ensures { λ r. ⌜ r ≡ depthOf bits ⌝ }
-{
-    match Depth::from_bits(bits) {
-        DepthWord::Known(d) => d,
-        DepthWord::Unknown => Depth::ThirtyTwo,
-    }
-}
-
 fn header_of(s: &[u8]) -> Header
     requires { ⌜ checkOpen (now s) ≡ Fine ⌝ }
     ensures { λ r. ⌜ r ≡ headerOf (now (s .entry)) ⌝ }
@@ -88,7 +77,7 @@ fn header_of(s: &[u8]) -> Header
     let h = header::read_fields(s);
     Header {
         channels: h.channels,
-        depth: depth_of(h.depth),
+        depth: Depth::of(h.depth),
         rate: h.rate,
         frames: Frames(h.frames),
         table: h.table,

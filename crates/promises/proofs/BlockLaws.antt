@@ -11,45 +11,22 @@ use lib.IntN.{ℤ, pos, negsuc}
 use lib.Dec.{ltb}
 use lib.Pow.{pow-mono}
 use borrow.Author.Tests.{ltb-true, le-leb}
-use Rattle.format.specs.Lists.{from, same, every}
+use Rattle.format.specs.Lists.{from, same}
 use Rattle.format.specs.Numbers.{num, digits, le, numAt, value, codeOf, holds}
 use Rattle.format.specs.Packed.{coding, widthOf, values, packing, rebuilt, isBeyond}
 use Rattle.format.specs.declared.packed.Coding.{Coding}
 use Rattle.format.specs.declared.packed.Coding.the-variants.{Differences, Raw}
 use Rattle.format.specs.Blocks.{blockMark, isBlock, baseOf, bitsOf, codingOf, sizeOf, decoded, samplesOf}
-use Rattle.format.specs.Encoding.{differences, least, width, head0, block, blockOf}
+use Rattle.format.specs.Encoding.{differences, width, head0, block, blockOf}
 use Rattle.laws.proofs.Digits.{num-le}
+use Rattle.laws.proofs.Widths.{width-low, width-every}
 use Rattle.laws.proofs.Signs.{Holds, AllHold, code-lt, value-code, values-packing, length-packing, every-holds}
 use Rattle.laws.proofs.Wrap.{Fit, rebuilt-back}
 
 -- ---- the width
 
-least-holds : (n b : ℕ) (ds : List ℤ) → least n b ds < b + n → every (holds (least n b ds)) ds ≡ true
-unfolding least
-least-holds zero b ds h = absurd (omega arith)
-least-holds (suc n) b ds h = by (every (holds b) ds) refl (least-holds n (b + 1) ds) h
-  where
-    by : (t : Bool) → every (holds b) ds ≡ t → (least n (b + 1) ds < b + 1 + n → every (holds (least n (b + 1) ds)) ds ≡ true)
-        → cond t b (least n (b + 1) ds) < b + suc n → every (holds (cond t b (least n (b + 1) ds))) ds ≡ true
-    by true e i l = e
-    by false e i l = i (omega arith)
-
-least-low : (n b : ℕ) (ds : List ℤ) → b ≤ least n b ds
-unfolding least
-least-low zero b ds = omega arith
-least-low (suc n) b ds = by (every (holds b) ds) (least-low n (b + 1) ds)
-  where
-    by : (t : Bool) → b + 1 ≤ least n (b + 1) ds → b ≤ cond t b (least n (b + 1) ds)
-    by true i = omega arith
-    by false i = omega arith
-
-pub width-low : (ds : List ℤ) → 2 ≤ width ds
-unfolding width
-width-low ds = least-low 30 2 ds
-
-pub width-holds : (ds : List ℤ) → width ds < 32 → AllHold (width ds) ds
-unfolding width
-width-holds ds h = every-holds (least 30 2 ds) ds (least-holds 30 2 ds h)
+width-holds : (ds : List ℤ) → width ds < 32 → AllHold (width ds) ds
+width-holds ds h = every-holds (width ds) ds (width-every ds h)
 
 pub length-differences : (xs : List ℤ) → length (differences xs) ≡ length xs
 unfolding differences

@@ -24,8 +24,8 @@ use Rattle.laws.proofs.Parts.{is-tab}
 use Rattle.laws.proofs.Signs.{AllHold}
 use Rattle.laws.proofs.Halves.{Even, even-padded}
 use Rattle.promises.proofs.BlockLaws.{Reads, block-reads}
-use Rattle.promises.proofs.Channels.{Level, channel-length, plain-is, split-is, split-level, woven-split, active-low}
-use Rattle.promises.proofs.Stereo.{both-level, both-back}
+use Rattle.laws.proofs.Channels.{Level, channel-length, plain-is, split-is, split-level, woven-split, active-low}
+use Rattle.laws.proofs.Stereo.{both-level, both-back}
 use Rattle.promises.proofs.GroupLaws.{coded-is, group-fine, first-flags, first-mark, first-pcm, group-long}
 
 -- what reading says of a group's bytes: the samples xs, and nothing refused
@@ -100,7 +100,7 @@ module _ (p : PcmSpec) (mode : StereoMode) (h : Fields) (ec : h .channels ≡ p 
 
   both : n ≡ 2 → parity chans ≡ true → Group h g s (blocks (h .depth) 1 (midSide chans))
   both two even =
-      blocks-group h g 1 (midSide chans) some low high (both-level (h .depth) n 512 high two chans level even) (omega arith) (λ e. two) s
+      blocks-group h g 1 (midSide chans) some low high (both-level (h .depth) n 512 high two chans level) (omega arith) (λ e. two) s
       (ap (woven k) (both-back (h .depth) n 512 high two chans level even) ∙ woven-split n k some few s l)
 
   -- the padded frames have the parity of the last

@@ -1,14 +1,11 @@
 -- The demands, each one theorem with a name, and the laws that lead to them.
 -- what is written is read back: a block, a group, a file
 pub mod BlockLaws
-pub mod Channels
-pub mod Stereo
 pub mod GroupLaws
 pub mod GroupCoding
 pub mod Laid
 pub mod FileLaws
 -- encoding, then decoding
-pub mod SampleChecks
 pub mod RoundTrip
 -- re-encoding: a block, a group, a file, and once more
 pub mod NewBlocks

@@ -25,8 +25,8 @@ use Rattle.laws.proofs.Checks.{pass, _and-then_, in-order, first-fine, others-f
 use Rattle.laws.proofs.Signs.{AllHold}
 use Rattle.laws.proofs.Wrap.{Fit}
 use Rattle.promises.proofs.BlockLaws.{Reads, fit}
-use Rattle.promises.proofs.Channels.{Level, plain-at, plain-level, woven-back, woven-at, active-low}
-use Rattle.promises.proofs.Stereo.{both-level, both-back, sides-follow, two-channels, left-at, frame-same}
+use Rattle.laws.proofs.Channels.{Level, plain-at, plain-level, woven-back, woven-at, active-low}
+use Rattle.laws.proofs.Stereo.{both-level, both-back, sides-follow, two-channels, left-at, frame-same}
 use Rattle.promises.proofs.GroupLaws.{not-float, front, rest-is, coded-is, group-fine, first-flags, first-mark, first-pcm, group-long}
 use Rattle.promises.proofs.GroupCoding.{Group}
 use Rattle.promises.proofs.NewBlocks.{Template, template-ok, newSamples, new-length, new-reads}
@@ -99,7 +99,7 @@ module _ {h : Fields} {g : ℕ} {bs : List ℕ} {s : List ℤ} (ok : Accepted h 
   level = by (midBit bs) refl
     where
       by : (t : Bool) → midBit bs ≡ t → Level (h .depth) n k chans
-      by true m = subst (Level (h .depth) n k) (sym (chans-both m)) (both-level (h .depth) n k (ok .high) (two-ok m) (plain n s) plains (even-ok m))
+      by true m = subst (Level (h .depth) n k) (sym (chans-both m)) (both-level (h .depth) n k (ok .high) (two-ok m) (plain n s) plains)
       by false m = subst (Level (h .depth) n k) (sym (chans-plain m)) plains
 
   -- ---- the blocks

@@ -22,7 +22,7 @@ use Rattle.format.specs.declared.refusals.Refusal.the-variants.{NotStereo, Pari
 use Rattle.laws.proofs.Tests.{never, either}
 use Rattle.laws.proofs.Checks.{found-below}
 use Rattle.laws.proofs.Halves.{even-at}
-use Rattle.promises.proofs.Channels.{plain-at, plain-long, group-length}
+use Rattle.laws.proofs.Channels.{plain-at, plain-long, group-length}
 
 -- some index below n has p
 pub record Some (p : ℕ → Bool) (n : ℕ) : Type 0 where

@@ -28,10 +28,10 @@ use Rattle.format.specs.declared.answers.Fields.{Fields}
 use Rattle.laws.proofs.Parts.{below-suc, from-within, from-from, length-from, part-at, joined-cong, meet}
 use Rattle.laws.proofs.Checks.{pass, _and-then_, first-fine, others-fine, passed, order-fine, found-below}
 use Rattle.laws.proofs.Lengths.{group-writes, active-sum}
-use Rattle.promises.proofs.Channels.{group-starts, group-length, group-holds, groups-joined}
+use Rattle.laws.proofs.Channels.{group-starts, group-length, group-holds, groups-joined}
 use Rattle.promises.proofs.GroupCoding.{Group}
 use Rattle.promises.proofs.Laid.{Layout, between, decode-fine, decode-gives}
-use Rattle.promises.proofs.SampleChecks.{reencoder-ok, frames-ok, values-ok}
+use Rattle.laws.proofs.SampleChecks.{reencoder-ok, frames-ok, values-ok}
 use Rattle.promises.proofs.Bytes.{below-group}
 use Rattle.promises.proofs.NewGroups.{Accepted, new-group, new-group-length, template-group, group-kept}
 

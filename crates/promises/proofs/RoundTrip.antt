@@ -24,11 +24,11 @@ use Rattle.format.specs.declared.settings.StereoMode.the-variants.{MidSide}
 use Rattle.format.specs.declared.answers.Fields.{Fields}
 use Rattle.format.specs.declared.answers.Outcome.the-variants.{Read, Wrote}
 use Rattle.laws.proofs.Checks.{pass, _and-then_, first-fine, others-fine, passed, found-below}
-use Rattle.promises.proofs.Channels.{group-length, group-holds, groups-joined}
+use Rattle.laws.proofs.Channels.{group-length, group-holds, groups-joined}
 use Rattle.promises.proofs.GroupCoding.{Group, group-codes}
 use Rattle.promises.proofs.Laid.{Layout, decode-fine, decode-gives}
 use Rattle.promises.proofs.FileLaws.{Small, first, total, head, assembled-layout}
-use Rattle.promises.proofs.SampleChecks.{encoder-ok, frames-ok, values-ok, count-ok}
+use Rattle.laws.proofs.SampleChecks.{encoder-ok, frames-ok, values-ok, count-ok}
 
 -- encoding accepts s
 module _ (p : PcmSpec) (mode : StereoMode) (s : List ℤ) (ok : checkEncode p mode s ≡ Fine) where

@@ -1,3 +1,5 @@
+use recorded::List;
+
 fn main() {
-    recorded::run();
+    recorded::run(List::Files);
 }

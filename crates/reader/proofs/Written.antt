@@ -6,7 +6,7 @@ use native.Mathlib.Nat.{mul-comm, mul-le-mul-right, zero-add}
 use native.Mathlib.Omega.{arith}
 use native.Mathlib.Numerals.{add-one}
 use lib.IntN.{ℤ}
-use lib.ListN.{length, take, drop, length-append, length-drop}
+use lib.ListN.{length, take, drop, length-append}
 use lib.Seq.{take-append-seam, drop-append-add, drop-drop}
 use Rattle.format.specs.Lists.{joined, over}
 use Rattle.format.specs.Header.{fieldsOf, groupsOf, entry, group}
@@ -16,6 +16,7 @@ use Rattle.format.specs.declared.refusals.Checked.the-variants.{Fine}
 use Rattle.format.specs.declared.settings.SampleFormat.{SampleFormat}
 use Rattle.format.specs.declared.answers.Fields.{Fields}
 use Rattle.laws.proofs.Checks.{first-fine, others-fine, order-fine}
+use Rattle.laws.proofs.Over.{length-over}
 use Rattle.laws.proofs.Lengths.{group-writes, active-sum}
 use Rattle.lent.specs.Lent.{placed, wovenFrom}
 use Rattle.lent.proofs.Weave.{woven-from}
@@ -30,10 +31,6 @@ placed-over xs ys s = rw (take-append-seam, drop-append-add, drop-drop, length-a
 pub placed-front : (xs s : List ℤ) → placed 0 xs s ≡ over xs s
 unfolding placed over
 placed-front xs s = rw zero-add refl
-
-pub length-over : (xs s : List ℤ) → length xs ≤ length s → length (over xs s) ≡ length s
-unfolding over
-length-over xs s h = length-append xs (drop (length xs) s) ∙ omega (arith, length-drop (length xs) s)
 
 -- ---- the samples of group g, and of the groups before it
 abbrev pub part : List ℕ → Fields → SampleFormat → ℕ → List ℤ

@@ -1,60 +1,32 @@
-// Opens and decodes each file of a recorded list, and prints a line for each; first of all, what a spoiled room looks like.
-// The list has 4 bytes for a file's length, 4 for how many samples there is room for, and then the file.
-use format::Answer;
-use format::Outcome;
-use format::Refusal;
-use format::Samples;
-use libc::STDIN_FILENO;
+// Recorded lists: the programs that go through one print a line for each case, and first of all what a spoiled room looks like.
+mod reading;
+mod writing;
 
-fn run_case(file: &[u8], room: &mut [i32]) {
-    report::print_opened(opening::open(file));
-    report::fill(room);
-    let answer = reader::decode_samples(file, room);
-    report::print_decoded(answer, room);
+pub enum List {
+    Files,
+    Samples,
 }
 
-// A case of n bytes with room for m samples, in the space that is lent, and whether it was there.
-fn read_case(n: usize, m: usize, file: &mut [u8], room: &mut [i32]) -> bool {
-    if file.len() < n {
-        return false;
+fn print_spoiled_rooms(list: List) {
+    match list {
+        List::Files => reading::print_spoiled_rooms(),
+        List::Samples => writing::print_spoiled_rooms(),
     }
-    if room.len() < m {
-        return false;
-    }
-    if io::read_full(STDIN_FILENO, &mut file[..n]) != n {
-        return false;
-    }
-    run_case(&file[..n], &mut room[..m]);
-    true
 }
 
-fn next_case() -> bool {
-    let mut sizes = [0u8; 8];
-    if io::read_full(STDIN_FILENO, &mut sizes) != 8 {
-        return false;
+// Whether there was one more case.
+fn next_case(list: List) -> bool {
+    match list {
+        List::Files => reading::next_case(),
+        List::Samples => writing::next_case(),
     }
-    let n = read_bytes::read_u32_le(&sizes, 0) as usize;
-    let m = read_bytes::read_u32_le(&sizes, 4) as usize;
-    let mut file = [0u8; 16384];
-    let mut room = [0i32; 4096];
-    read_case(n, m, &mut file, &mut room)
-}
-
-// Room in which sample 2 has changed since it was filled, after this answer: the line says so.
-fn print_spoiled(answer: Answer) {
-    let mut room = [0i32; 4];
-    report::fill(&mut room);
-    room[2] = 0;
-    report::print(b"spoiled");
-    report::print_decoded(answer, &room);
 }
 
 // Every case; then how many there were. Turns are counted, since nothing says that an input ends.
-pub fn run() {
-    print_spoiled(Answer::refused(Refusal::TooShort));
-    print_spoiled(Answer::of(Outcome::Read(Samples(1))));
+pub fn run(list: List) {
+    print_spoiled_rooms(list);
     let mut cases: u64 = 0;
-    while cases < 1000 && next_case() {
+    while cases < 1000 && next_case(list) {
         cases += 1;
     }
     report::print_number(cases);

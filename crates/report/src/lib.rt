@@ -1,10 +1,11 @@
-// What the programs print of a file that they open or decode.
+// What the programs print of what they open, decode or encode.
 mod line;
 mod opened;
 mod room;
 mod text;
 
 pub use line::print_decoded;
+pub use line::print_encoded;
 pub use line::print_opened;
 pub use opened::open_input;
 pub use room::fill;

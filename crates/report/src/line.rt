@@ -1,4 +1,4 @@
-// The line of a recorded case: what opening answered, what decoding answered, and whether the rest of the room stayed.
+// The line of a recorded case: what opening, decoding or encoding answered, and whether the rest of the room stayed.
 use crate::room::checksum;
 use crate::room::is_kept;
 use crate::text::print;
@@ -8,7 +8,8 @@ use crate::text::print_refusal;
 use format::Answer;
 use format::Header;
 use format::Outcome;
-use format::Samples;
+use format::Refusal;
+use lent::Container;
 
 fn print_field(n: u64) {
     print(b" ");
@@ -40,35 +41,54 @@ pub fn print_opened(answer: Answer) {
     }
 }
 
-fn print_kept(room: &[i32], start: usize) {
-    if is_kept(room, start) {
-        print(b", kept\n");
+fn print_kept(which: Container, words: &[i32], bytes: &[u8], start: usize) {
+    if is_kept(which, words, bytes, start) {
+        print(b", kept");
     } else {
-        print(b", changed\n");
+        print(b", changed");
     }
 }
 
-fn print_read(samples: Samples, room: &[i32]) {
-    if (room.len() as u64) < samples.0 {
-        print(b"more read than there is room\n");
+// How many were written, their sum, and whether the rest stayed: n samples, or n times four bytes.
+fn print_done(which: Container, words: &[i32], bytes: &[u8], n: usize) {
+    if lent::count(which, words, bytes) < n {
+        print(b" more than there is room");
         return;
     }
-    let n = samples.0 as usize;
-    print(b"read");
-    print_field(samples.0);
-    print_field(checksum(&room[..n]));
-    print_kept(room, n);
+    print_field(checksum(which, words, bytes, n));
+    print_kept(which, words, bytes, n);
+}
+
+fn print_refused(r: Refusal, which: Container, words: &[i32], bytes: &[u8]) {
+    print_refusal(r);
+    print_kept(which, words, bytes, 0);
 }
 
 pub fn print_decoded(answer: Answer, room: &[i32]) {
     print(b", ");
     let outcome = answer.outcome;
     match outcome {
-        Outcome::Read(samples) => print_read(samples, room),
-        Outcome::Refused(r) => {
-            print_refusal(r);
-            print_kept(room, 0);
+        Outcome::Read(samples) => {
+            print(b"read");
+            print_field(samples.0);
+            print_done(Container::Words, room, &[], samples.0 as usize);
         }
-        _ => print(b"no answer\n"),
+        Outcome::Refused(r) => print_refused(r, Container::Words, room, &[]),
+        _ => print(b"no answer"),
+    }
+    print(b"\n");
+}
+
+// What encoding answered; a file's length is a multiple of 4.
+pub fn print_encoded(answer: Answer, file: &[u8]) {
+    let outcome = answer.outcome;
+    match outcome {
+        Outcome::Wrote(n) => {
+            print(b"wrote");
+            print_field(n);
+            print_done(Container::Bytes, &[], file, n as usize / 4);
+        }
+        Outcome::Refused(r) => print_refused(r, Container::Bytes, &[], file),
+        _ => print(b"no answer"),
     }
 }

@@ -1,3 +1,4 @@
 -- The laws that the proofs of this crate cite.
 pub mod Words
 pub mod Nans
+pub mod Halving

@@ -53,5 +53,7 @@ module _ {a b r : ℤ} {x y s : ℕ} (f : SFits w32 a) (g : SFits w32 b) (h : ma
   pub added : s ≡ (x + y) % 2 ^ 32 → toZ w32 (ofZ w32 r) ≡ plus a b
   added e = given h (v ∙ ap (value 32) ((rw (bits-back f p ∙ code-is a, bits-back g q ∙ code-is b) at e) ∙ add-bits a b f g))
 
-  pub subtracted : s < 2 ^ 32 → (s + y) % 2 ^ 32 ≡ x → toZ w32 (ofZ w32 r) ≡ minus a b
-  subtracted l e = given h (v ∙ ap (value 32) (sub-bits a b s f g l (rw (bits-back f p ∙ code-is a, bits-back g q ∙ code-is b) at e)))
+  pub subtracted : x < 2 ^ 32 → y < 2 ^ 32 → s ≡ (x + 4294967296 - y) % 4294967296 → toZ w32 (ofZ w32 r) ≡ minus a b
+  subtracted l m e =
+      let back : (s + y) % 2 ^ 32 ≡ x = omega arith in
+      given h (v ∙ ap (value 32) (sub-bits a b s f g (omega arith) (rw (bits-back f p ∙ code-is a, bits-back g q ∙ code-is b) at back)))

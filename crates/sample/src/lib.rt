@@ -4,6 +4,7 @@ ghost use mathlib.Core.Path.{_≡_};
 ghost use lib.Ieee.{binary32, nanBits, ofBits};
 ghost use Rattle.format.specs.Numbers.{value, codeOf, plus, minus};
 ghost use Rattle.format.specs.MidSide.{patternOf, left, right};
+ghost use Rattle.format.specs.Encoding.{mid, side, equalParity};
 ghost use Rattle.sample.specs.Patterns.{floatSum, floatDifference};
 
 // The 32 bits of x.
@@ -33,7 +34,8 @@ pub fn wrapping_add(a: i32, b: i32) -> i32
 pub fn wrapping_sub(a: i32, b: i32) -> i32
     ensures { λ r. ⌜ r ≡ minus a b ⌝ }
 {
-    of_bits(std::num::wrapping_sub_u32(bits_of(a), bits_of(b)))
+    let up = bits_of(a) as u64 + 0x1_0000_0000;
+    of_bits(((up - bits_of(b) as u64) % 0x1_0000_0000) as u32)
 }
 
 // Whether x is the pattern of a NaN: with the sign's bit off it is above the infinity's.
@@ -89,4 +91,25 @@ pub fn right(format: SampleFormat, mid: i32, side: i32) -> i32
         SampleFormat::Pcm => wrapping_sub(mid, side),
         SampleFormat::Float => of_bits(float_difference(bits_of(mid), bits_of(side))),
     }
+}
+
+// Whether both are even or both are odd.
+pub fn equal_parity(l: i32, r: i32) -> bool
+    ensures { λ b. ⌜ b ≡ equalParity l r ⌝ }
+{
+    bits_of(l) % 2 == bits_of(r) % 2
+}
+
+// Half of the exact sum.
+pub fn mid(l: i32, r: i32) -> i32
+    ensures { λ m. ⌜ m ≡ mid l r ⌝ }
+{
+    ((l as i64 + r as i64) / 2) as i32
+}
+
+// Half of the exact difference.
+pub fn side(l: i32, r: i32) -> i32
+    ensures { λ s. ⌜ s ≡ side l r ⌝ }
+{
+    ((l as i64 - r as i64) / 2) as i32
 }

@@ -13,11 +13,11 @@ mul-v c = let a = c .before .before .before in omega (arith, word-in (a .args .w
 slice-set-from-v : tie.Need-slice-set-from-v
 slice-set-from-v c = let a = c .before .before .before in word-in (a .args .words .now) (a .args .bytes .now) (a .args .i) (a .pre) (c .enum-told .given .1)
 
-mul-put-word : tie.Need-mul-put-word
-mul-put-word c = let a = c .before .before .before .before in omega (arith, bytes-in (a .args .words .now) (a .args .bytes .now) (a .args .i) (a .pre) (c .before .enum-told2 .given .1))
+mul-put-u32-le : tie.Need-mul-put-u32-le
+mul-put-u32-le c = let a = c .before .before .before .before in omega (arith, bytes-in (a .args .words .now) (a .args .bytes .now) (a .args .i) (a .pre) (c .before .enum-told2 .given .1))
 
-put-word-requires : tie.Need-put-word-requires
-put-word-requires c κs = let a = c .before .before .before .before .before in omega (arith, bytes-in (a .args .words .now) (a .args .bytes .now) (a .args .i) (a .pre) (c .before .before .enum-told2 .given .1))
+put-u32-le-requires : tie.Need-put-u32-le-requires
+put-u32-le-requires c κs = let a = c .before .before .before .before .before in omega (arith, bytes-in (a .args .words .now) (a .args .bytes .now) (a .args .i) (a .pre) (c .before .before .enum-told2 .given .1))
 
 returns : tie.Need-returns
 returns c =
@@ -33,7 +33,7 @@ returns-2 c =
     let x = a .args in
     let e = g .before .before .before .enum-told2 .given .1 in
     let n = g .before .bits-of .result in
-    (bytes-put (x .words .now) (x .bytes .now) (x .i) (a .pre) e (x .v) n (a .fits .v) (g .before .bits-of .ok) (g .before .bits-of .ensures) (g .put-word .ensures), bytes-keep (x .words .now) (x .bytes .now) (x .i) (a .pre) e n (g .put-word .ensures))
+    (bytes-put (x .words .now) (x .bytes .now) (x .i) (a .pre) e (x .v) n (a .fits .v) (g .before .bits-of .ok) (g .before .bits-of .ensures) (g .put-u32-le .ensures), bytes-keep (x .words .now) (x .bytes .now) (x .i) (a .pre) e n (g .put-u32-le .ensures))
 
 pub put-sample-spec : {M : Type 1} → statement M
 put-sample-spec =
@@ -43,9 +43,9 @@ put-sample-spec =
     mul-v
     slice-set-from-v
     (λ c. search needs)
-    mul-put-word
+    mul-put-u32-le
     (λ c κs. search needs)
-    put-word-requires
+    put-u32-le-requires
     (λ c. search needs)
     returns
     (λ c. search needs)

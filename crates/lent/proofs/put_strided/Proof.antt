@@ -2,7 +2,6 @@
 use mathlib.Core.Path.{_≡_, refl, _∙_}
 use Prim.Native.Nat.{_+_, _-_, _*_, _^_, _≤_, _<_}
 use native.Mathlib.Omega.{arith}
-use lib.Arith.{digits-lt}
 use lib.ListN.{length}
 use borrow.Author.Needs.{needs}
 use Rattle.format.specs.Lists.{from}
@@ -10,7 +9,7 @@ use Rattle.sample.proofs.Words.{given}
 use Rattle.lent.specs.Lent.{lentOf, restOf, strided}
 use Rattle.lent.proofs.Laws.{count-lt}
 use Rattle.lent.proofs.Weave.{length-strided}
-use Rattle.lent.proofs.Runs.{frame-le, strided-none, strided-turn}
+use Rattle.lent.proofs.Runs.{frame-le, place-in, strided-none, strided-turn}
 use Rattle.lent.proofs.put_strided.Statement.{statement}
 use Rattle.lent.proofs.put_strided.Tie as tie
 
@@ -35,8 +34,7 @@ long a = search needs
 within : (c : tie.In-loop Inv-loop μ-loop) → (let x = c .before .before .before .args in (x .first + c .before .loop .k) * x .channels + x .c < length (lentOf (x .which) (x .words .now) (x .bytes .now)))
 within c =
     let a = c .before .before .before in
-    let p : a .args .first + c .before .loop .k < a .args .first + a .args .n = omega arith in
-    omega (arith, digits-lt p (a .pre .1))
+    place-in (a .args .first) (a .args .n) (c .before .loop .k) (a .args .channels) (a .args .c) (c .loop-test .taken) (a .pre .1) (a .pre .2)
 
 loop-holds : tie.Need-loop-holds Inv-loop μ-loop
 loop-holds c = let x = c .before .args in (omega arith, refl, refl, strided-none (lentOf (x .which) (x .words .now) (x .bytes .now)) (x .first * x .channels + x .c) (x .channels) (x .skip) (x .t9), refl)

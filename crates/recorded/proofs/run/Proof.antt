@@ -5,10 +5,10 @@ use Rattle.recorded.proofs.run.Statement.{statement}
 use Rattle.recorded.proofs.run.Tie as tie
 
 abbrev Inv-loop : tie.InvT-loop
-Inv-loop cases₀ t2 cases = cases ≤ 1000
+Inv-loop list cases₀ t3 cases = cases ≤ 1000
 
 abbrev μ-loop : tie.MeasureT-loop
-μ-loop cases₀ t2 cases = 1000 - cases
+μ-loop list cases₀ t3 cases = 1000 - cases
 
 pub run-spec : {M : Type 1} → statement M
 run-spec =
@@ -16,9 +16,6 @@ run-spec =
     (tie.spec
     Inv-loop
     μ-loop
-    (λ c κs. search needs)
-    (λ c κs. search needs)
-    (λ c κs. search needs)
     (λ c κs. search needs)
     (λ c. search needs)
     (λ c κs. search needs)

@@ -1,4 +1,4 @@
--- `sample::wrapping_sub` meets its contract: what the four calls ensure, put together.
+-- `sample::wrapping_sub` meets its contract: what the three calls ensure, put together.
 use borrow.Author.Needs.{needs}
 use Rattle.sample.proofs.Words.{subtracted}
 use Rattle.sample.proofs.wrapping_sub.Statement.{statement}
@@ -12,7 +12,11 @@ wrapping-sub-spec =
     tie.close
     (tie.spec
     (λ c κs. search needs)
+    (λ c. search needs)
+    (λ c. search needs)
     (λ c κs. search needs)
-    (λ c κs. search needs)
+    (λ c. search needs)
+    (λ c. search needs)
+    (λ c. search needs)
     (λ c κs. search needs)
     returns)

@@ -1,0 +1,191 @@
+-- Channels of interleaved samples, padded, and woven again, over the channel count.
+use Prim.Native.Nat.{ℕ, zero, suc, _+_, _-_, _*_, _/_, _≤_, _<_, min}
+use native.Mathlib.Decide.{decLe}
+use mathlib.Core.Path.{_≡_, refl, sym, ap, ap₂, _∙_}
+use mathlib.Core.List.{List, [], _∷_, _++_, map}
+use native.Mathlib.Omega.{arith}
+use native.Mathlib.Nat.{mul-div-right, mul-comm, mul-sub, mul-assoc, mul-le-mul-left, mul-suc}
+use lib.ListN.{length, getD, take, drop, length-append, length-replicate, length-take, length-drop, length-map, List·getD-append}
+use lib.Seq.{getD-take, getD-drop, take-all, length-take-le, ext-getD, getD-append-add}
+use lib.IntN.{ℤ, pos}
+use lib.Pow.{pow-pos}
+use Rattle.format.specs.Lists.{joined, from, lastOr}
+use Rattle.format.specs.Header.{groupsOf}
+use Rattle.format.specs.Decoding.{woven, active}
+use Rattle.format.specs.Encoding.{channel, plain, padded, split, groupIn}
+use Rattle.laws.proofs.Parts.{length-tab, getD-tab, joined-cong, joined-from, around, length-even}
+use Rattle.laws.proofs.Each.{each-append, each-tab, each-replicate, each-from}
+use Rattle.laws.proofs.Signs.{Holds, AllHold}
+
+last-holds : (b : ℕ) (d : ℤ) (xs : List ℤ) → Holds b d → AllHold b xs → Holds b (lastOr d xs)
+unfolding lastOr
+last-holds b d [] h p = h
+last-holds b d (x ∷ xs) h p = last-holds b x xs (p 0) (λ j. p (suc j))
+
+-- n channels of k samples each that b bits hold
+pub record Level (b n k : ℕ) (chans : List (List ℤ)) : Type 0 where
+  pub count : length chans ≡ n
+  pub long : (c : ℕ) → c < n → length (getD chans c []) ≡ k
+  pub hold : (c : ℕ) → c < n → AllHold b (getD chans c [])
+
+-- ---- the channels of k frames of n samples
+module _ (n k : ℕ) (some : 1 ≤ n) (s : List ℤ) (l : length s ≡ n * k) where
+  frame-count : length s / n ≡ k
+  frame-count = ap (λ (x : ℕ). x / n) l ∙ mul-div-right k some
+
+  pub channel-length : (c : ℕ) → length (channel n s c) ≡ k
+  unfolding channel
+  channel-length c = length-tab (length s / n) (λ i. getD s (i * n + c) (pos 0)) ∙ frame-count
+
+  -- sample i of channel c
+  pub channel-at : (c i : ℕ) → i < k → getD (channel n s c) i (pos 0) ≡ getD s (i * n + c) (pos 0)
+  unfolding channel
+  channel-at c i h = getD-tab (length s / n) (λ j. getD s (j * n + c) (pos 0)) i (pos 0) (omega (arith, frame-count))
+
+  pub channel-holds : (b c : ℕ) → AllHold b s → AllHold b (channel n s c)
+  unfolding channel
+  channel-holds b c h = each-tab (Holds b) (pos 0) (pow-pos (b - 1)) (length s / n) (λ i. getD s (i * n + c) (pos 0)) (λ i. h (i * n + c))
+
+  -- as they stand
+  pub plain-is : (c : ℕ) → c < n → getD (plain n s) c [] ≡ channel n s c
+  unfolding plain
+  plain-is c q = getD-tab n (channel n s) c [] q
+
+  pub plain-at : (c i : ℕ) → c < n → i < k → getD (getD (plain n s) c []) i (pos 0) ≡ getD s (i * n + c) (pos 0)
+  plain-at c i q h = ap (λ (x : List ℤ). getD x i (pos 0)) (plain-is c q) ∙ channel-at c i h
+
+  pub plain-long : (c : ℕ) → c < n → length (getD (plain n s) c []) ≡ k
+  plain-long c q = ap length (plain-is c q) ∙ channel-length c
+
+  pub plain-level : (b : ℕ) → AllHold b s → Level b n k (plain n s)
+  unfolding plain
+  plain-level b h =
+      record {
+        count = length-tab n (channel n s);
+        long = plain-long;
+        hold = λ c q i. rw (plain-is c q) (channel-holds b c h i);
+      }
+
+  -- and padded to 512
+  module _ (few : k ≤ 512) where
+    pub padded-length : (c : ℕ) → length (padded (channel n s c)) ≡ 512
+    unfolding padded
+    padded-length c = length-append (channel n s c) _ ∙ omega (arith, channel-length c, length-replicate (512 - length (channel n s c)) (lastOr (pos 0) (channel n s c)))
+
+    pub padded-holds : (b c : ℕ) → AllHold b s → AllHold b (padded (channel n s c))
+    unfolding padded
+    padded-holds b c h =
+        let a = channel-holds b c h in
+        let z = pow-pos (b - 1) in
+        each-append (Holds b) (pos 0) z (channel n s c) _ a
+        (each-replicate (Holds b) (pos 0) z (512 - length (channel n s c)) (lastOr (pos 0) (channel n s c)) (last-holds b (pos 0) (channel n s c) z a))
+
+    pub padded-at : (c i : ℕ) → i < k → getD (padded (channel n s c)) i (pos 0) ≡ getD s (i * n + c) (pos 0)
+    unfolding padded
+    padded-at c i h = List·getD-append (channel n s c) _ (pos 0) i (omega (arith, channel-length c)) ∙ channel-at c i h
+
+    pub split-is : (c : ℕ) → c < n → getD (split n s) c [] ≡ padded (channel n s c)
+    unfolding split
+    split-is c q = getD-tab n (λ c. padded (channel n s c)) c [] q
+
+    pub split-at : (c i : ℕ) → c < n → i < k → getD (getD (split n s) c []) i (pos 0) ≡ getD s (i * n + c) (pos 0)
+    split-at c i q h = ap (λ (x : List ℤ). getD x i (pos 0)) (split-is c q) ∙ padded-at c i h
+
+    pub split-level : (b : ℕ) → AllHold b s → Level b n 512 (split n s)
+    unfolding split
+    split-level b h =
+        record {
+          count = length-tab n (λ c. padded (channel n s c));
+          long = λ c q. ap length (split-is c q) ∙ padded-length c;
+          hold = λ c q i. rw (split-is c q) (padded-holds b c h i);
+        }
+
+-- ---- channels whose first k samples are those of s, woven
+getD-map : {A B : Type 0} (f : A → B) (l : List A) (a : A) (d : B) (i : ℕ) → i < length l → getD (map f l) i d ≡ f (getD l i a)
+getD-map f [] a d i h = absurd (omega arith)
+getD-map f (x ∷ l) a d zero h = refl
+getD-map f (x ∷ l) a d (suc i) h = getD-map f l a d i (omega arith)
+
+-- frame i of the channels
+frameOf : List (List ℤ) → ℕ → List ℤ
+frameOf chans i = map (λ (ch : List ℤ). getD ch i (pos 0)) chans
+
+frame-length : (chans : List (List ℤ)) (i : ℕ) → length (frameOf chans i) ≡ length chans
+unfolding frameOf
+frame-length chans i = length-map chans (λ (ch : List ℤ). getD ch i (pos 0))
+
+frame-at : (chans : List (List ℤ)) (i c : ℕ) → c < length chans → getD (frameOf chans i) c (pos 0) ≡ getD (getD chans c []) i (pos 0)
+unfolding frameOf
+frame-at chans i c h = getD-map (λ (ch : List ℤ). getD ch i (pos 0)) chans [] (pos 0) c h
+
+woven-is : (k : ℕ) (chans : List (List ℤ)) → woven k chans ≡ joined (frameOf chans) k
+unfolding woven frameOf
+woven-is k chans = refl
+
+module _ (n k : ℕ) (s : List ℤ) (l : length s ≡ n * k) (chans : List (List ℤ)) (m : length chans ≡ n)
+    (are : (c i : ℕ) → c < n → i < k → getD (getD chans c []) i (pos 0) ≡ getD s (i * n + c) (pos 0)) where
+  frame-is : (i : ℕ) → i < k → frameOf chans i ≡ from (n * i) n s
+  unfolding from
+  frame-is i h =
+      let room : n * i + n ≤ length s = omega (arith, mul-le-mul-left {m = suc i} {n = k} n h, mul-suc n i) in
+      let long : length (take n (drop (n * i) s)) ≡ n = length-take-le n (drop (n * i) s) (omega (arith, length-drop (n * i) s)) in
+      let wide : length (frameOf chans i) ≡ n = frame-length chans i ∙ m in
+      ext-getD (pos 0) (frameOf chans i) (take n (drop (n * i) s)) (wide ∙ sym long)
+      (λ c p. let q : c < n = omega arith in
+      frame-at chans i c (omega arith) ∙ are c i q h ∙ ap (λ (x : ℕ). getD s (x + c) (pos 0)) (mul-comm i n)
+      ∙ sym (getD-take n (drop (n * i) s) c (pos 0) q ∙ getD-drop (n * i) s c (pos 0)))
+
+  -- they give s back
+  pub woven-back : woven k chans ≡ s
+  woven-back = woven-is k chans ∙ joined-cong (frameOf chans) (λ i. from (n * i) n s) k frame-is ∙ joined-from n s k ∙ take-all (n * k) s (omega arith)
+
+-- and taken apart again
+pub woven-at : (n k : ℕ) (chans : List (List ℤ)) → length chans ≡ n → (c i : ℕ) → c < n → i < k → getD (woven k chans) (i * n + c) (pos 0) ≡ getD (getD chans c []) i (pos 0)
+woven-at n k chans m c i q h =
+    let w : (j : ℕ) → length (frameOf chans j) ≡ n = λ j. frame-length chans j ∙ m in
+    let a = around (frameOf chans) i k h in
+    let e : i * n + c ≡ length (joined (frameOf chans) i) + c = omega (arith, length-even (frameOf chans) n w i, mul-comm i n) in
+    ap₂ (λ (l : List ℤ) (x : ℕ). getD l x (pos 0)) (woven-is k chans ∙ a .1) e
+    ∙ getD-append-add (joined (frameOf chans) i) (frameOf chans i ++ a .0) c (pos 0)
+    ∙ List·getD-append (frameOf chans i) (a .0) (pos 0) c (omega (arith, w i))
+    ∙ frame-at chans i c (omega arith)
+
+-- the padded channels give their samples back
+pub woven-split : (n k : ℕ) → 1 ≤ n → k ≤ 512 → (s : List ℤ) → length s ≡ n * k → woven k (split n s) ≡ s
+unfolding split
+woven-split n k some few s l = woven-back n k s l (split n s) (length-tab n (λ c. padded (channel n s c))) (split-at n k some s l few)
+
+-- ---- the groups of a whole list: n × frames samples
+mul-min : (w a b : ℕ) → w * min a b ≡ min (w * a) (w * b)
+mul-min w a b =
+    elim (decLe a b) [
+      | yes h ↦ let e : min a b ≡ a = omega arith in ap (λ (x : ℕ). w * x) e ∙ omega (arith, mul-le-mul-left w h)
+      | no h ↦ let e : min a b ≡ b = omega arith in let h′ : b ≤ a = omega arith in ap (λ (x : ℕ). w * x) e ∙ omega (arith, mul-le-mul-left w h′)
+    ]
+
+pub active-low : (frames g : ℕ) → active frames g ≤ 512
+unfolding active
+active-low frames g = omega arith
+
+-- where group g begins
+pub group-starts : (n g : ℕ) → 512 * n * g ≡ n * (512 * g)
+group-starts n g = ap (λ (x : ℕ). x * g) (mul-comm 512 n) ∙ mul-assoc n 512 g
+
+pub group-holds : (b n : ℕ) (s : List ℤ) (g : ℕ) → AllHold b s → AllHold b (groupIn n s g)
+unfolding groupIn
+group-holds b n s g = each-from (Holds b) (pos 0) (pow-pos (b - 1)) (512 * n * g) (512 * n) s
+
+module _ (n frames : ℕ) (s : List ℤ) (l : length s ≡ n * frames) where
+  pub group-length : (g : ℕ) → length (groupIn n s g) ≡ n * active frames g
+  unfolding groupIn from active
+  group-length g =
+      let e = group-starts n g in
+      let d : length (drop (512 * n * g) s) ≡ n * (frames - 512 * g) = length-drop (512 * n * g) s ∙ omega (arith, mul-sub n frames (512 * g)) in
+      length-take (512 * n) (drop (512 * n * g) s) ∙ ap₂ min (mul-comm 512 n) d ∙ sym (mul-min n 512 (frames - 512 * g))
+
+  -- the groups, joined
+  pub groups-joined : joined (groupIn n s) (groupsOf frames) ≡ s
+  unfolding groupIn groupsOf
+  groups-joined =
+      let g = (frames + 511) / 512 in
+      joined-from (512 * n) s g ∙ take-all (512 * n * g) s (omega (arith, mul-le-mul-left {m = frames} {n = 512 * g} n (omega arith), group-starts n g))

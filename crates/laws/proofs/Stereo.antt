@@ -1,0 +1,122 @@
+-- Two channels as mid and side: they lie in the same range, and left and right come back.
+use Prim.Native.Nat.{ℕ, zero, suc, _-_, _^_, _≤_, _<_}
+use mathlib.Core.Path.{_≡_, refl, sym, ap, ap₂, _∙_}
+use mathlib.Core.Bool.{true}
+use mathlib.Core.List.{List, [], _∷_}
+use native.Mathlib.Omega.{arith}
+use lib.ListN.{length, getD, take}
+use lib.Seq.{ext-getD, getD-take, length-take-le}
+use lib.IntN.{ℤ, pos}
+use lib.Pow.{pow-mono}
+use Rattle.format.specs.Lists.{pairwise}
+use Rattle.format.specs.MidSide.{left, right, leftRight}
+use Rattle.format.specs.Encoding.{mid, side, midSide, parity}
+use Rattle.format.specs.declared.settings.SampleFormat.the-variants.{Pcm}
+use Rattle.laws.proofs.Signs.{AllHold}
+use Rattle.laws.proofs.Wrap.{Fit}
+use Rattle.laws.proofs.Halves.{Even, length-pairwise, mid-holds, side-holds, lefts-back, rights-back, pairwise-at, even-at, side-follows}
+use Rattle.laws.proofs.Channels.{Level}
+
+-- two channels that b bits hold
+module _ (b n k : ℕ) (high : b ≤ 32) (two : n ≡ 2) (chans : List (List ℤ)) (level : Level b n k chans) where
+  abbrev l : List ℤ
+  l = getD chans 0 []
+
+  abbrev r : List ℤ
+  r = getD chans 1 []
+
+  l-long : length l ≡ k
+  l-long = level .long 0 (omega arith)
+
+  r-long : length r ≡ k
+  r-long = level .long 1 (omega arith)
+
+  l-holds : AllHold b l
+  l-holds = level .hold 0 (omega arith)
+
+  r-holds : AllHold b r
+  r-holds = level .hold 1 (omega arith)
+
+  -- mid and side are two such channels
+  pub both-level : Level b n k (midSide chans)
+  unfolding midSide
+  both-level = record { count = sym two; long = long; hold = hold }
+    where
+      long : (c : ℕ) → c < n → length (getD (midSide chans) c []) ≡ k
+      long zero q = length-pairwise mid l r (l-long ∙ sym r-long) ∙ l-long
+      long (suc zero) q = length-pairwise side l r (l-long ∙ sym r-long) ∙ l-long
+      long (suc (suc c)) q = absurd (omega arith)
+
+      hold : (c : ℕ) → c < n → AllHold b (getD (midSide chans) c [])
+      hold zero q = mid-holds b high l r l-holds r-holds
+      hold (suc zero) q = side-holds b high l r l-holds r-holds
+      hold (suc (suc c)) q = absurd (omega arith)
+
+  -- of equal parity in every frame
+  module _ (even : parity chans ≡ true) where
+    even-frames : Even l r
+    unfolding parity
+    even-frames = even
+
+    -- and are read as the two
+    pub both-back : leftRight Pcm (midSide chans) ≡ chans
+    unfolding leftRight midSide
+    both-back =
+        ap₂ (λ (x y : List ℤ). x ∷ y ∷ [])
+        (lefts-back b high l r (l-long ∙ sym r-long) l-holds r-holds even-frames)
+        (rights-back b high l r (l-long ∙ sym r-long) l-holds r-holds even-frames)
+        ∙ pair chans (level .count ∙ two)
+      where
+        pair : (xs : List (List ℤ)) → length xs ≡ 2 → getD xs 0 [] ∷ getD xs 1 [] ∷ [] ≡ xs
+        pair [] e = absurd (omega arith)
+        pair (x ∷ []) e = absurd (omega arith)
+        pair (x ∷ y ∷ []) e = refl
+        pair (x ∷ y ∷ z ∷ xs) e = absurd (omega arith)
+
+    -- of two lists whose left is l and whose first k mids are theirs, the first k sides are theirs too
+    pub sides-follow : (m s : List ℤ) → k ≤ length s → Fit s → getD (midSide chans) 0 [] ≡ take k m
+        → ((i : ℕ) → i < k → left Pcm (getD m i (pos 0)) (getD s i (pos 0)) ≡ getD l i (pos 0)) → getD (midSide chans) 1 [] ≡ take k s
+    unfolding midSide
+    sides-follow m s long fits mids lefts =
+        let sl = length-pairwise side l r (l-long ∙ sym r-long) ∙ l-long in
+        ext-getD (pos 0) (pairwise side l r) (take k s) (sl ∙ sym (length-take-le k s long))
+        (λ i p. let j : i < k = omega arith in
+        frame side i j
+        ∙ side-follows (2 ^ (b - 1)) (pow-mono {j = 31} (omega arith)) (getD l i (pos 0)) (getD r i (pos 0)) (getD m i (pos 0)) (getD s i (pos 0)) (l-holds i) (r-holds i)
+        (even-at l r i (omega (arith, l-long)) (omega (arith, r-long)) even-frames) (fits i)
+        (sym (frame mid i j) ∙ ap (λ (x : List ℤ). getD x i (pos 0)) mids ∙ getD-take k m i (pos 0) j) (lefts i j)
+        ∙ sym (getD-take k s i (pos 0) j))
+      where
+        frame : (f : ℤ → ℤ → ℤ) (i : ℕ) → i < k → getD (pairwise f l r) i (pos 0) ≡ f (getD l i (pos 0)) (getD r i (pos 0))
+        frame f i j = pairwise-at f l r i (pos 0) (pos 0) (omega (arith, l-long)) (omega (arith, r-long))
+
+-- ---- left and right at frame i
+pub two-channels : (chans : List (List ℤ)) → length (leftRight Pcm chans) ≡ 2
+unfolding leftRight
+two-channels chans = refl
+
+-- the two channels have a frame i
+abbrev pub Reach : ℕ → List (List ℤ) → Type 0
+Reach i chans = (c : ℕ) → c < 2 → i < length (getD chans c [])
+
+module _ (i : ℕ) (chans : List (List ℤ)) (reach : Reach i chans) where
+  abbrev m : ℤ
+  m = getD (getD chans 0 []) i (pos 0)
+
+  abbrev s : ℤ
+  s = getD (getD chans 1 []) i (pos 0)
+
+  pub left-at : getD (getD (leftRight Pcm chans) 0 []) i (pos 0) ≡ left Pcm m s
+  unfolding leftRight
+  left-at = pairwise-at (left Pcm) (getD chans 0 []) (getD chans 1 []) i (pos 0) (pos 0) (reach 0 (omega arith)) (reach 1 (omega arith))
+
+  right-at : getD (getD (leftRight Pcm chans) 1 []) i (pos 0) ≡ right Pcm m s
+  unfolding leftRight
+  right-at = pairwise-at (right Pcm) (getD chans 0 []) (getD chans 1 []) i (pos 0) (pos 0) (reach 0 (omega arith)) (reach 1 (omega arith))
+
+-- are those of mid and side there
+pub frame-same : (i : ℕ) (xs ys : List (List ℤ)) → Reach i xs → Reach i ys → ((c : ℕ) → c < 2 → getD (getD xs c []) i (pos 0) ≡ getD (getD ys c []) i (pos 0))
+    → (c : ℕ) → c < 2 → getD (getD (leftRight Pcm xs) c []) i (pos 0) ≡ getD (getD (leftRight Pcm ys) c []) i (pos 0)
+frame-same i xs ys rx ry e zero q = left-at i xs rx ∙ ap₂ (left Pcm) (e 0 (omega arith)) (e 1 (omega arith)) ∙ sym (left-at i ys ry)
+frame-same i xs ys rx ry e (suc zero) q = right-at i xs rx ∙ ap₂ (right Pcm) (e 0 (omega arith)) (e 1 (omega arith)) ∙ sym (right-at i ys ry)
+frame-same i xs ys rx ry e (suc (suc c)) q = absurd (omega arith)

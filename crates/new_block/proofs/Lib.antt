@@ -1,0 +1,2 @@
+-- a new block's header, bytes and length
+pub mod Laws

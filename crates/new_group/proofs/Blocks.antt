@@ -1,0 +1,130 @@
+-- The parity of padded channels, and the blocks of a group, one after another.
+use Prim.Native.Nat.{ℕ, _+_, _-_, _*_, _/_, _^_, _≤_, _<_}
+use mathlib.Core.Path.{_≡_, refl, sym, ap, _∙_}
+use mathlib.Core.Bool.{Bool, true, false, _&&_}
+use mathlib.Core.List.{List, [], _∷_, _++_}
+use native.Mathlib.Omega.{arith}
+use native.Mathlib.Numerals.{add-one}
+use lib.IntN.{ℤ, pos}
+use lib.ListN.{length, getD, take, drop, length-append, length-drop}
+use mir.Syntax.{w64}
+use mir.Val.{Fits}
+use borrow.Rule.Slice.PartAt.{part-to-end}
+use Rattle.format.specs.Lists.{tab, joined, over, every, pairwise}
+use Rattle.format.specs.Encoding.{channel, plain, padded, split, blockOf, blocks, equalParity, parity}
+use Rattle.laws.proofs.Tests.{never}
+use Rattle.laws.proofs.Over.{lend-turn}
+use Rattle.laws.proofs.Parts.{length-tab, getD-tab, length-mono, joined-cong, one-more}
+use Rattle.laws.proofs.Halves.{even-padded}
+
+-- ---- padding keeps the parity
+abbrev evenPairs : List ℤ → List ℤ → Bool
+evenPairs l r = every (λ (b : Bool). b) (pairwise equalParity l r)
+
+and-falls : (t u v : Bool) → (u ≡ false → v ≡ false) → (t && u) ≡ false → (t && v) ≡ false
+and-falls true u v f h = f h
+and-falls false u v f h = refl
+
+-- an uneven frame stays, whatever follows
+uneven : (l r a b : List ℤ) → evenPairs l r ≡ false → evenPairs (l ++ a) (r ++ b) ≡ false
+unfolding pairwise every
+uneven [] r a b e = never e
+uneven (x ∷ l) [] a b e = never e
+uneven (x ∷ l) (y ∷ r) a b e = and-falls (equalParity x y) (evenPairs l r) (evenPairs (l ++ a) (r ++ b)) (uneven l r a b) e
+
+even-same : (l r : List ℤ) → length l ≡ length r → evenPairs (padded l) (padded r) ≡ evenPairs l r
+unfolding padded
+even-same l r n = by (evenPairs l r) refl
+  where
+    by : (t : Bool) → evenPairs l r ≡ t → evenPairs (padded l) (padded r) ≡ t
+    by true e = even-padded l r n e
+    by false e = uneven l r _ _ e
+
+channel-count : (n : ℕ) (s : List ℤ) (c : ℕ) → length (channel n s c) ≡ length s / n
+unfolding channel
+channel-count n s c = length-tab (length s / n) (λ i. getD s (i * n + c) (pos 0))
+
+pub parity-split : (s : List ℤ) → parity (split 2 s) ≡ parity (plain 2 s)
+unfolding parity split plain tab
+parity-split s = even-same (channel 2 s 0) (channel 2 s 1) (channel-count 2 s 0 ∙ sym (channel-count 2 s 1))
+
+-- ---- the blocks of a group
+module _ (depth flags : ℕ) (a : List (List ℤ)) (two : length a ≡ 2) where
+  abbrev l : List ℕ
+  l = blockOf depth flags (getD a 0 [])
+
+  abbrev r : List ℕ
+  r = blockOf depth flags (getD a 1 [])
+
+  pair-blocks : blocks depth flags a ≡ l ++ r
+  unfolding blocks joined
+  pair-blocks = rw two
+
+  pair-length : length (blocks depth flags a) ≡ length l + length r
+  pair-length = ap length pair-blocks ∙ length-append l r
+
+  pub pair-count : (x y : ℕ) → x ≡ length l → y ≡ length r → x + y ≡ length (blocks depth flags a)
+  pair-count x y p q = omega (arith, pair-length)
+
+  -- two blocks are written into xs: the first, of k bytes, gives d
+  module _ (xs : List ℕ) (room : length (blocks depth flags a) ≤ length xs) where
+    pub first-fits : length l ≤ length xs
+    first-fits = omega (arith, pair-length)
+
+    module _ (k : ℕ) (d : List ℕ) (same : length d ≡ length xs) (is : k ≡ length l) where
+      pub first-inside : k ≤ length d
+      first-inside = omega (arith, pair-length)
+
+      pub second-fits : length r ≤ length (take (length d - k) (drop k d))
+      second-fits = rw part-to-end (omega (arith, pair-length, length-drop k d))
+
+      pub second-ends : (m : ℕ) → m ≡ length r → length xs < 2 ^ 64 → Fits w64 (k + m)
+      second-ends m e h = record { fits = omega (arith, pair-length) }
+
+      pub pair-written : (ys : List ℕ) → d ≡ over l xs → ys ≡ over r (take (length d - k) (drop k d)) → take k d ++ (ys ++ drop (length d - k) (drop k d)) ≡ over (blocks depth flags a) xs
+      pair-written ys e f = rw pair-blocks (lend-turn k l r xs d ys is e f)
+
+-- the blocks of the channels before c
+module _ (depth flags n : ℕ) (s : List ℤ) where
+  abbrev channelBlock : ℕ → List ℕ
+  channelBlock c = blockOf depth flags (padded (channel n s c))
+
+  abbrev pub blocksBefore : ℕ → List ℕ
+  blocksBefore c = joined channelBlock c
+
+  all-blocks : blocksBefore n ≡ blocks depth flags (split n s)
+  unfolding blocks split
+  all-blocks =
+      rw (length-tab n (λ c. padded (channel n s c)))
+      (joined-cong channelBlock _ n (λ c h. ap (blockOf depth flags) (sym (getD-tab n (λ c. padded (channel n s c)) c [] h))))
+
+  -- `at` is their length, and they are written into xs, which gives d; run is channel c
+  module _ (c at : ℕ) (so-far : at ≡ length (blocksBefore c)) where
+    pub count-all : c ≤ n → n ≤ c → at ≡ length (blocks depth flags (split n s))
+    count-all h k = let e : c ≡ n = omega arith in so-far ∙ ap (λ (i : ℕ). length (blocksBefore i)) e ∙ ap length all-blocks
+
+    module _ (run : List ℤ) (is : run ≡ padded (channel n s c)) where
+      pub count-more : (m : ℕ) → m ≡ length (blockOf depth flags run) → at + m ≡ length (blocksBefore (c + 1))
+      count-more m e = omega (arith, one-more channelBlock c, ap (λ (x : List ℤ). length (blockOf depth flags x)) is)
+
+    module _ (xs d : List ℕ) (room : length (blocks depth flags (split n s)) ≤ length xs) (same : length d ≡ length xs) (below : c < n) where
+      here : length (blocksBefore c) + length (channelBlock c) ≤ length xs
+      here = omega (arith, length-mono channelBlock (c + 1) n (omega arith), one-more channelBlock c, ap length all-blocks)
+
+      pub next-inside : at ≤ length d
+      next-inside = omega (arith, here)
+
+      module _ (run : List ℤ) (is : run ≡ padded (channel n s c)) where
+        pub next-fits : length (blockOf depth flags run) ≤ length (take (length d - at) (drop at d))
+        next-fits = rw (part-to-end, is) (omega (arith, here, length-drop at d))
+
+        pub next-ends : (m : ℕ) → m ≡ length (blockOf depth flags run) → length xs < 2 ^ 64 → Fits w64 (at + m)
+        next-ends m e h = record { fits = omega (arith, here, ap (λ (x : List ℤ). length (blockOf depth flags x)) is) }
+
+        pub next-written : (ys : List ℕ) → d ≡ over (blocksBefore c) xs → ys ≡ over (blockOf depth flags run) (take (length d - at) (drop at d))
+            → take at d ++ (ys ++ drop (length d - at) (drop at d)) ≡ over (blocksBefore (c + 1)) xs
+        unfolding joined
+        next-written ys e f = rw add-one (lend-turn at (blocksBefore c) (channelBlock c) xs d ys so-far e (rw is at f))
+
+  pub written-all : (c : ℕ) (xs d : List ℕ) → d ≡ over (blocksBefore c) xs → c ≤ n → n ≤ c → d ≡ over (blocks depth flags (split n s)) xs
+  written-all c xs d f h k = let e : c ≡ n = omega arith in f ∙ ap (λ (i : ℕ). over (blocksBefore i) xs) e ∙ ap (λ (x : List ℕ). over x xs) all-blocks

@@ -1,0 +1,14 @@
+-- `new_group::auto_takes` meets its contract.
+use borrow.Author.Needs.{needs}
+use Rattle.new_group.proofs.Groups.{auto-smaller, auto-not}
+use Rattle.new_group.proofs.auto_takes.Statement.{statement}
+use Rattle.new_group.proofs.auto_takes.Tie as tie
+
+pub auto-takes-spec : {M : Type 1} → statement M
+auto-takes-spec =
+    tie.close
+    (tie.spec
+    (λ c κs. search needs)
+    (λ c κs. search needs)
+    (λ c. search (needs, auto-smaller))
+    (λ c. search (needs, auto-not)))

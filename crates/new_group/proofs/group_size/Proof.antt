@@ -1,0 +1,19 @@
+-- `new_group::group_size` meets its contract.
+use borrow.Author.Needs.{needs}
+use Rattle.new_group.proofs.Groups.{two-inside, size-mid, size-direct, group-other, group-count}
+use Rattle.new_group.proofs.group_size.Statement.{statement}
+use Rattle.new_group.proofs.group_size.Tie as tie
+
+pub group-size-spec : {M : Type 1} → statement M
+group-size-spec =
+    tie.close
+    (tie.spec
+    (λ c κs. search (needs, two-inside))
+    (λ c κs. search needs)
+    (λ c κs. search needs)
+    (λ c κs. search needs)
+    (λ c. search (needs, size-mid))
+    (λ c κs. search needs)
+    (λ c. search (needs, size-direct))
+    (λ c κs. search needs)
+    (λ c. search (needs, group-count, group-other)))

@@ -1,0 +1,22 @@
+-- `new_group::write_group` meets its contract.
+use borrow.Author.Needs.{needs}
+use Rattle.new_group.proofs.Groups.{two-inside, mid-holds, direct-holds, group-mid, group-direct, group-other, as-direct, group-fits, group-count, group-written}
+use Rattle.new_group.proofs.write_group.Statement.{statement}
+use Rattle.new_group.proofs.write_group.Tie as tie
+
+pub write-group-spec : {M : Type 1} → statement M
+write-group-spec =
+    tie.close
+    (tie.spec
+    (λ c κs. search (needs, two-inside))
+    (λ c κs. search needs)
+    (λ c κs. search needs)
+    (λ c κs. search (needs, mid-holds, group-fits, group-mid))
+    (λ c. search needs)
+    (λ c. search (needs, group-count, group-written, group-mid))
+    (λ c κs. search (needs, direct-holds, group-fits, group-direct))
+    (λ c. search needs)
+    (λ c. search (needs, group-count, group-written, group-direct))
+    (λ c κs. search (needs, as-direct, group-fits, group-other))
+    (λ c. search needs)
+    (λ c. search (needs, group-count, group-written, group-other)))

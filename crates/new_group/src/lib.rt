@@ -1,0 +1,200 @@
+// A new group: mid/side where the mode takes it, its length, and its blocks, each written into its own part.
+use format::Depth;
+use format::PcmSpec;
+use format::StereoMode;
+use lent::Container;
+ghost use mathlib.Core.Path.{_≡_};
+ghost use mathlib.Core.Bool.{true};
+ghost use mathlib.Core.List.{[]};
+ghost use Prim.Native.Nat.{ℕ, _+_, _*_, _<_, _≤_};
+ghost use lib.ListN.{length, getD};
+ghost use Rattle.format.specs.Lists.{over, every};
+ghost use Rattle.format.specs.Numbers.{holds};
+ghost use Rattle.format.specs.Encoding.{midSide, parity, plain, split, blocks, groupOf};
+ghost use Rattle.format.specs.declared.settings.StereoMode.the-variants.{Direct};
+ghost use Rattle.lent.specs.Lent.{lentOf, framesFrom};
+ghost use Rattle.new_group.specs.Choice.{sizesOf, autoTakes, takesOf};
+ghost use Rattle.new_group.specs.Writable.{Writable};
+
+// Two channels of left and right as mid and side.
+pub fn mid_side(a: [[i32; 512]; 2]) -> [[i32; 512]; 2]
+    ensures { λ r. ⌜ r ≡ midSide a ⌝ }
+{
+    let mut m = a;
+    for i in 0..Depth::SAMPLES_PER_BLOCK {
+        let l = m[0][i];
+        let r = m[1][i];
+        m[0][i] = sample::mid(l, r);
+        m[1][i] = sample::side(l, r);
+    }
+    m
+}
+
+// Whether every frame has equal parity.
+pub fn parity(a: [[i32; 512]; 2]) -> bool
+    ensures { λ r. ⌜ r ≡ parity a ⌝ }
+{
+    let mut even = true;
+    for i in 0..Depth::SAMPLES_PER_BLOCK {
+        let e = sample::equal_parity(a[0][i], a[1][i]);
+        even = even & e;
+    }
+    even
+}
+
+// The same of the n frames from `first` on: padded frames never change it.
+pub fn frames_parity(which: Container, words: &[i32], bytes: &[u8], first: usize, n: usize) -> bool
+    requires { ⌜ (0 < n) × (n ≤ 512) × ((first + n) * 2 ≤ length (lentOf which (now words) (now bytes))) ⌝ }
+    ensures { λ r. ⌜ r ≡ parity (plain 2 (framesFrom 2 first n (lentOf which (now (words .entry)) (now (bytes .entry))))) ⌝ }
+{
+    parity(lent::split(which, words, bytes, first, n))
+}
+
+// A group's length in both forms.
+pub struct Sizes {
+    pub direct: usize,
+    pub mid_side: usize,
+}
+
+fn pair_size(a: [[i32; 512]; 2], depth: u16) -> usize
+    requires { ⌜ depth ≤ 32 ⌝ }
+    ensures { λ r. ⌜ ((flags : ℕ) → r ≡ length (blocks depth flags a)) × (r ≤ 4128) ⌝ }
+{
+    new_block::block_size(a[0], depth) + new_block::block_size(a[1], depth)
+}
+
+// What Auto weighs.
+pub fn both_sizes(a: [[i32; 512]; 2], depth: u16) -> Sizes
+    requires { ⌜ depth ≤ 32 ⌝ }
+    ensures { λ r. ⌜ r ≡ sizesOf depth a ⌝ }
+{
+    Sizes {
+        direct: pair_size(a, depth),
+        mid_side: pair_size(mid_side(a), depth),
+    }
+}
+
+// Auto takes mid/side where representable and strictly smaller.
+fn auto_takes(a: [[i32; 512]; 2], depth: u16) -> bool
+    requires { ⌜ depth ≤ 32 ⌝ }
+    ensures { λ r. ⌜ r ≡ autoTakes depth a ⌝ }
+{
+    if parity(a) {
+        let s = both_sizes(a, depth);
+        return s.mid_side < s.direct;
+    }
+    false
+}
+
+// Whether the mode takes mid/side for a group of two channels.
+fn takes_mid(mode: StereoMode, a: [[i32; 512]; 2], depth: u16) -> bool
+    requires { ⌜ depth ≤ 32 ⌝ }
+    ensures { λ r. ⌜ r ≡ takesOf mode depth a ⌝ }
+{
+    match mode {
+        StereoMode::Direct => false,
+        StereoMode::MidSide => true,
+        StereoMode::Auto => auto_takes(a, depth),
+    }
+}
+
+// Any number of channels, one at a time.
+fn channels_size(
+    which: Container,
+    words: &[i32],
+    bytes: &[u8],
+    first: usize,
+    n: usize,
+    p: PcmSpec,
+) -> usize
+    requires { ⌜ (0 < n) × (n ≤ 512) × (p .«bits_per_sample» ≤ 32) × ((first + n) * p .channels ≤ length (lentOf which (now words) (now bytes))) ⌝ }
+    ensures { λ r. ⌜ (r ≡ length (blocks (p .«bits_per_sample») 0 (split (p .channels) (framesFrom (p .channels) first n (lentOf which (now (words .entry)) (now (bytes .entry))))))) × (r ≤ p .channels * 2064) ⌝ }
+{
+    let channels = p.channels as usize;
+    let mut size: usize = 0;
+    for c in 0..channels {
+        let run = lent::channel(which, words, bytes, first, n, channels, c);
+        size += new_block::block_size(run, p.bits_per_sample);
+    }
+    size
+}
+
+// The length of the group of n frames from `first` on.
+pub fn group_size(
+    which: Container,
+    words: &[i32],
+    bytes: &[u8],
+    first: usize,
+    n: usize,
+    p: PcmSpec,
+    mode: StereoMode,
+) -> usize
+    requires { ⌜ Writable p mode first n (lentOf which (now words) (now bytes)) ⌝ }
+    ensures { λ r. ⌜ (r ≡ length (groupOf p mode (framesFrom (p .channels) first n (lentOf which (now (words .entry)) (now (bytes .entry)))))) × (r ≤ p .channels * 2064) ⌝ }
+{
+    if p.channels == 2 {
+        let a = lent::split(which, words, bytes, first, n);
+        if takes_mid(mode, a, p.bits_per_sample) {
+            return pair_size(mid_side(a), p.bits_per_sample);
+        }
+        return pair_size(a, p.bits_per_sample);
+    }
+    channels_size(which, words, bytes, first, n, p)
+}
+
+// Two blocks at the front of what is lent, and their length.
+fn write_pair(out: &mut [u8], a: [[i32; 512]; 2], depth: u16, flags: u16) -> usize
+    requires { ⌜ (1 ≤ depth) × (depth ≤ 32) × (every (holds depth) (getD a 0 []) ≡ true) × (every (holds depth) (getD a 1 []) ≡ true) × (length (blocks depth flags a) ≤ length (now out)) ⌝ }
+    ensures { λ r. ⌜ (r ≡ length (blocks depth flags a)) × (now (out .exit) ≡ over (blocks depth flags a) (now (out .entry))) ⌝ }
+{
+    let at = new_block::channel_block(out, a[0], depth, flags);
+    at + new_block::channel_block(&mut out[at..], a[1], depth, flags)
+}
+
+// Any number of channels, one at a time.
+fn write_channels(
+    out: &mut [u8],
+    which: Container,
+    words: &[i32],
+    bytes: &[u8],
+    first: usize,
+    n: usize,
+    p: PcmSpec,
+) -> usize
+    requires { ⌜ Writable p Direct first n (lentOf which (now words) (now bytes)) ⌝ }
+    requires { ⌜ length (blocks (p .«bits_per_sample») 0 (split (p .channels) (framesFrom (p .channels) first n (lentOf which (now words) (now bytes))))) ≤ length (now out) ⌝ }
+    ensures { λ r. ⌜ (r ≡ length (blocks (p .«bits_per_sample») 0 (split (p .channels) (framesFrom (p .channels) first n (lentOf which (now (words .entry)) (now (bytes .entry))))))) × (now (out .exit) ≡ over (blocks (p .«bits_per_sample») 0 (split (p .channels) (framesFrom (p .channels) first n (lentOf which (now (words .entry)) (now (bytes .entry)))))) (now (out .entry))) ⌝ }
+{
+    let channels = p.channels as usize;
+    let mut at: usize = 0;
+    for c in 0..channels {
+        let run = lent::channel(which, words, bytes, first, n, channels, c);
+        at += new_block::channel_block(&mut out[at..], run, p.bits_per_sample, 0);
+    }
+    at
+}
+
+// The group of n frames from `first` on at the front of what is lent, and its length.
+pub fn write_group(
+    out: &mut [u8],
+    which: Container,
+    words: &[i32],
+    bytes: &[u8],
+    first: usize,
+    n: usize,
+    p: PcmSpec,
+    mode: StereoMode,
+) -> usize
+    requires { ⌜ Writable p mode first n (lentOf which (now words) (now bytes)) ⌝ }
+    requires { ⌜ length (groupOf p mode (framesFrom (p .channels) first n (lentOf which (now words) (now bytes)))) ≤ length (now out) ⌝ }
+    ensures { λ r. ⌜ (r ≡ length (groupOf p mode (framesFrom (p .channels) first n (lentOf which (now (words .entry)) (now (bytes .entry)))))) × (now (out .exit) ≡ over (groupOf p mode (framesFrom (p .channels) first n (lentOf which (now (words .entry)) (now (bytes .entry))))) (now (out .entry))) ⌝ }
+{
+    if p.channels == 2 {
+        let a = lent::split(which, words, bytes, first, n);
+        if takes_mid(mode, a, p.bits_per_sample) {
+            return write_pair(out, mid_side(a), p.bits_per_sample, 1);
+        }
+        return write_pair(out, a, p.bits_per_sample, 0);
+    }
+    write_channels(out, which, words, bytes, first, n, p)
+}

@@ -1,0 +1,44 @@
+-- What is packed where the width holds all, and what stays where it does not: k is what the check says.
+use Prim.Native.Nat.{ℕ, _*_}
+use mathlib.Core.Path.{_≡_, refl, sym, _∙_}
+use mathlib.Core.Bool.{Bool, true, false, not}
+use mathlib.Core.List.{List, [], append-nil}
+use native.Mathlib.Omega.{arith}
+use lib.IntN.{ℤ}
+use lib.ListN.{length, drop, drop-of-length-le}
+use Rattle.format.specs.Lists.{every, over}
+use Rattle.format.specs.Numbers.{holds}
+use Rattle.format.specs.Packed.{packing}
+use Rattle.format.specs.Answers.{filled}
+use Rattle.format.specs.declared.refusals.Refusal.{Refusal}
+use Rattle.format.specs.declared.refusals.Refusal.the-variants.{WidthTooSmall}
+use Rattle.format.specs.declared.refusals.Checked.{Checked}
+use Rattle.format.specs.declared.refusals.Checked.the-variants.{Fine, No}
+use Rattle.laws.proofs.Checks.{passed}
+use Rattle.laws.proofs.Signs.{length-packing}
+use Rattle.packing.specs.Fit.{checkFit}
+
+not-false : (t : Bool) → not t ≡ false → t ≡ true
+not-false true e = refl
+not-false false e = cc
+
+module _ (b : ℕ) (vs : List ℤ) (k : Checked) (says : k ≡ checkFit b vs) where
+  pub unfit : (r : Refusal) → k ≡ No r → No r ≡ checkFit b vs
+  unfit r t = sym t ∙ says
+
+  pub unfilled : (r : Refusal) (s : List ℕ) → k ≡ No r → s ≡ filled (checkFit b vs) (packing b vs) s
+  unfilled r s t = rw (← says, t)
+
+  module _ (fine : k ≡ Fine) where
+    pub fit : Fine ≡ checkFit b vs
+    fit = sym fine ∙ says
+
+    pub all-hold : every (holds b) vs ≡ true
+    unfolding checkFit
+    all-hold = not-false (every (holds b) vs) (passed (not (every (holds b) vs)) WidthTooSmall (sym fit))
+
+    pub all-filled : (s after : List ℕ) → length s ≡ 64 * b → after ≡ packing b vs → after ≡ filled (checkFit b vs) (packing b vs) s
+    unfolding over
+    all-filled s after l e =
+        let n : drop (length (packing b vs)) s ≡ [] = drop-of-length-le s {i = length (packing b vs)} (omega (arith, length-packing b vs)) in
+        rw (← says, fine, n, append-nil) e

@@ -1,0 +1,9 @@
+-- numbers by their digits, and codes of narrower widths; a code put after others; the codes of a run; what a refusal leaves
+pub mod Numbers
+pub mod Steps
+pub mod Run
+pub mod Fits
+-- the least width and the differences, one at a time; the largest magnitude; differences stored
+pub mod Definitions
+pub mod Widths
+pub mod Sweeps

@@ -1,0 +1,22 @@
+-- `packing::check_fit` meets its contract.
+use borrow.Author.Needs.{needs}
+use Rattle.packing.proofs.Widths.{fits-all, fits-not}
+use Rattle.packing.proofs.check_fit.Statement.{statement}
+use Rattle.packing.proofs.check_fit.Tie as tie
+
+returns : tie.Need-returns
+returns c = search fits-all
+
+returns-2 : tie.Need-returns-2
+returns-2 c = search fits-not
+
+pub check-fit-spec : {M : Type 1} → statement M
+check-fit-spec =
+    tie.close
+    (tie.spec
+    (λ c κs. search needs)
+    (λ c. search needs)
+    (λ c. search needs)
+    (λ c κs. search needs)
+    returns
+    returns-2)

@@ -1,0 +1,2 @@
+-- what each function answers at each way out
+pub mod Ways

@@ -1,0 +1,143 @@
+-- What each check of a writer's settings and samples answers at each way out, from what the calls' contracts and the tests give.
+use Prim.Native.Nat.{ℕ, _*_, _/_, _%_, _<_, _≤_}
+use mathlib.Core.Path.{_≡_, refl, sym, ap, _∙_}
+use mathlib.Core.Bool.{Bool, true, false, not, cond}
+use mathlib.Core.List.{List, [], _∷_}
+use native.Mathlib.Omega.{arith}
+use native.Mathlib.Nat.{div-add-mod}
+use lib.ListN.{length}
+use lib.IntN.{ℤ}
+use lib.Dec.{eqb, ltb}
+use borrow.Author.Tests.{lt-ltb, le-ltb, eq-eqb, ne-eqb}
+use Rattle.format.specs.Lists.{every, isIn}
+use Rattle.format.specs.Units.{within, depthOf, framesIn}
+use Rattle.format.specs.Refusals.{refuse, _then_}
+use Rattle.format.specs.Encoding.{checkSpec, checkSamples}
+use Rattle.format.specs.declared.refusals.Refusal.{Refusal}
+use Rattle.format.specs.declared.refusals.Refusal.the-variants.{WriterSpec, IncompleteFrame, ValueOutside, TooManyFrames}
+use Rattle.format.specs.declared.refusals.Checked.{Checked}
+use Rattle.format.specs.declared.refusals.Checked.the-variants.{Fine, No}
+use Rattle.format.specs.declared.settings.PcmSpec.{PcmSpec}
+use Rattle.format.specs.declared.units.Depth.{Depth}
+use Rattle.format.specs.declared.units.Frames.{Frames}
+use Rattle.format.specs.declared.units.Framed.{Framed}
+use Rattle.format.specs.declared.units.Framed.the-variants.{Whole, Incomplete, TooMany}
+use Rattle.laws.proofs.Tests.{never}
+
+-- ---- 30
+module _ (p : PcmSpec) (most : ℕ) (listed : Bool) where
+  pub no-channel : p .channels ≡ 0 → (depths : List ℕ) → listed ≡ isIn (p .«bits_per_sample») depths → No WriterSpec ≡ checkSpec most depths p
+  unfolding checkSpec refuse _then_
+  no-channel h depths e = rw (eq-eqb (p .channels) 0 h)
+
+  module _ (some : p .channels ≡ 0 → ⊥) where
+    pub many-channels : most < p .channels → (depths : List ℕ) → listed ≡ isIn (p .«bits_per_sample») depths → No WriterSpec ≡ checkSpec most depths p
+    unfolding checkSpec refuse _then_
+    many-channels h depths e = rw (ne-eqb (p .channels) 0 some, lt-ltb most (p .channels) h)
+
+    module _ (few : p .channels ≤ most) where
+      pub other-depth : listed ≡ false → (depths : List ℕ) → listed ≡ isIn (p .«bits_per_sample») depths → No WriterSpec ≡ checkSpec most depths p
+      unfolding checkSpec refuse _then_
+      other-depth h depths e = rw (ne-eqb (p .channels) 0 some, le-ltb most (p .channels) few, ← e, h)
+
+      module _ (depth : listed ≡ true) where
+        pub no-rate : p .«sample_rate» ≡ 0 → (depths : List ℕ) → listed ≡ isIn (p .«bits_per_sample») depths → No WriterSpec ≡ checkSpec most depths p
+        unfolding checkSpec refuse _then_
+        no-rate h depths e = rw (ne-eqb (p .channels) 0 some, le-ltb most (p .channels) few, ← e, depth, eq-eqb (p .«sample_rate») 0 h)
+
+        pub spec-fine : (p .«sample_rate» ≡ 0 → ⊥) → (depths : List ℕ) → listed ≡ isIn (p .«bits_per_sample») depths → Fine ≡ checkSpec most depths p
+        unfolding checkSpec refuse _then_
+        spec-fine h depths e = rw (ne-eqb (p .channels) 0 some, le-ltb most (p .channels) few, ← e, depth, ne-eqb (p .«sample_rate») 0 h)
+
+module _ (b : ℕ) where
+  pub is-16 : b ≡ 16 → true ≡ isIn b (16 ∷ 24 ∷ [])
+  unfolding isIn
+  is-16 e = rw e
+
+  pub is-24 : b ≡ 24 → true ≡ isIn b (16 ∷ 24 ∷ [])
+  unfolding isIn
+  is-24 e = rw e
+
+  pub is-other : (b ≡ 16 → ⊥) → (b ≡ 24 → ⊥) → false ≡ isIn b (16 ∷ 24 ∷ [])
+  unfolding isIn
+  is-other p q = rw (ne-eqb b 16 p, ne-eqb b 24 q)
+
+-- ---- frames
+module _ (n m channels : ℕ) (counts : n ≡ m) where
+  pub framed-is : (r : Framed) → r ≡ framesIn (record { 0 = n }) channels → r ≡ framesIn (record { 0 = m }) channels
+  framed-is r e = e ∙ ap (λ (k : ℕ). framesIn (record { 0 = k }) channels) counts
+
+abbrev is-whole : Framed → Bool
+is-whole (Whole n) = true
+is-whole Incomplete = false
+is-whole TooMany = false
+
+abbrev counted : Framed → ℕ
+counted (Whole n) = n .0
+counted Incomplete = 0
+counted TooMany = 0
+
+-- whole frames, and not too many: f is what m samples are in frames
+module _ (m channels : ℕ) (f : Framed) (some : 1 ≤ channels) (exact : m ≡ channels * (m / channels)) (few : m / channels < 4294967296) (says : f ≡ framesIn (record { 0 = m }) channels) where
+  all-whole : f ≡ Whole (record { 0 = m / channels })
+  unfolding framesIn
+  all-whole =
+      let none : m % channels ≡ 0 = omega (arith, div-add-mod m channels) in
+      says ∙ rw (ne-eqb channels 0 (λ e. omega arith), eq-eqb (m % channels) 0 none, le-ltb 4294967295 (m / channels) (omega arith))
+
+  pub frames-are : (n : Frames) → f ≡ Whole n → n .0 ≡ m / channels
+  frames-are n e = ap counted (sym e ∙ all-whole)
+
+  pub not-incomplete : f ≡ Incomplete → 0 ≡ m / channels
+  not-incomplete e = never (ap is-whole (sym all-whole ∙ e))
+
+  pub not-too-many : f ≡ TooMany → 0 ≡ m / channels
+  not-too-many e = never (ap is-whole (sym all-whole ∙ e))
+
+-- ---- 32: d is the depth that was read, t what was found at it
+module _ (s : List ℤ) (b : ℕ) (d : Depth) (reads : d ≡ depthOf b) (t : Bool) (finds : t ≡ every (within d) s) where
+  pub value-outside : t ≡ false → No ValueOutside ≡ refuse (not (every (within (depthOf b)) s)) ValueOutside
+  unfolding refuse
+  value-outside h = rw (← reads, ← finds, h)
+
+  pub values-fine : t ≡ true → Fine ≡ refuse (not (every (within (depthOf b)) s)) ValueOutside
+  unfolding refuse
+  values-fine h = rw (← reads, ← finds, h)
+
+-- ---- 31 to 33: v is 32, f what the samples are in frames
+abbrev in-frames : Checked → Framed → Checked
+in-frames v Incomplete = No IncompleteFrame
+in-frames v (Whole n) = v
+in-frames v TooMany = v then No TooManyFrames
+
+by-frames : (v : Checked) (n : Frames) (a b : Bool)
+    → in-frames v (cond a (cond b TooMany (Whole n)) Incomplete) ≡ (refuse (not a) IncompleteFrame then v then refuse b TooManyFrames)
+unfolding refuse _then_
+by-frames v n true true = refl
+by-frames Fine n true false = refl
+by-frames (No r) n true false = refl
+by-frames v n false b = refl
+
+module _ (p : PcmSpec) (s : List ℤ) (some : 1 ≤ p .channels) (f : Framed) (counts : f ≡ framesIn (record { 0 = length s }) (p .channels)) where
+  abbrev values : Checked
+  values = refuse (not (every (within (depthOf (p .«bits_per_sample»))) s)) ValueOutside
+
+  samples-checked : in-frames values f ≡ checkSamples p s
+  unfolding checkSamples framesIn
+  samples-checked = rw (counts, ne-eqb (p .channels) 0 (λ e. omega arith)) (by-frames values _ (eqb (length s % p .channels) 0) (ltb 4294967295 (length s / p .channels)))
+
+  pub incomplete : f ≡ Incomplete → No IncompleteFrame ≡ checkSamples p s
+  incomplete h = rw h at samples-checked
+
+  module _ (v : Checked) (checks : v ≡ values) where
+    pub whole : (n : Frames) → f ≡ Whole n → v ≡ checkSamples p s
+    whole n h = checks ∙ (rw h at samples-checked)
+
+    module _ (h : f ≡ TooMany) where
+      pub outside-first : (r : Refusal) → v ≡ No r → No r ≡ checkSamples p s
+      unfolding _then_
+      outside-first r t = sym (ap (λ (k : Checked). k then No TooManyFrames) (sym checks ∙ t)) ∙ (rw h at samples-checked)
+
+      pub too-many : v ≡ Fine → No TooManyFrames ≡ checkSamples p s
+      unfolding _then_
+      too-many t = sym (ap (λ (k : Checked). k then No TooManyFrames) (sym checks ∙ t)) ∙ (rw h at samples-checked)

@@ -1,0 +1,104 @@
+// What a writer is given: its settings and its samples, refused by 30 to 33: validate of writer.rs.
+use format::Checked;
+use format::Depth;
+use format::Framed;
+use format::Frames;
+use format::PcmSpec;
+use format::Refusal;
+use format::Samples;
+use lent::Container;
+ghost use mathlib.Core.Path.{_≡_};
+ghost use mathlib.Core.List.{List, [], _∷_};
+ghost use mathlib.Core.Bool.{not};
+ghost use Prim.Native.Nat.{ℕ, _*_, _/_, _<_, _≤_};
+ghost use lib.ListN.{length};
+ghost use Rattle.format.specs.Lists.{every, isIn};
+ghost use Rattle.format.specs.Units.{within, depthOf, framesIn};
+ghost use Rattle.format.specs.Refusals.{refuse};
+ghost use Rattle.format.specs.declared.refusals.Refusal.the-variants.{ValueOutside};
+ghost use Rattle.format.specs.Encoding.{checkSpec, checkEncoder, checkSamples};
+ghost use Rattle.lent.specs.Lent.{lentOf};
+
+// 30, of a writer that takes 1 to `most` channels; listed: whether it takes the depth.
+pub fn check_spec(p: PcmSpec, most: u16, listed: bool) -> Checked
+    ensures { λ r. ⌜ ((depths : List ℕ) → listed ≡ isIn (p .«bits_per_sample») depths → r ≡ checkSpec most depths p) ⌝ }
+{
+    if p.channels == 0 {
+        return Checked::No(Refusal::WriterSpec);
+    }
+    if most < p.channels {
+        return Checked::No(Refusal::WriterSpec);
+    }
+    if listed {} else {
+        return Checked::No(Refusal::WriterSpec);
+    }
+    if p.sample_rate == 0 {
+        return Checked::No(Refusal::WriterSpec);
+    }
+    Checked::Fine
+}
+
+// The encoder's depths.
+fn encoder_depth(bits: u16) -> bool
+    ensures { λ r. ⌜ r ≡ isIn bits (16 ∷ 24 ∷ []) ⌝ }
+{
+    match bits {
+        16 => true,
+        24 => true,
+        _ => false,
+    }
+}
+
+// 30, of the encoder: its limits stand here.
+pub fn check_encoder(p: PcmSpec) -> Checked
+    ensures { λ r. ⌜ r ≡ checkEncoder p ⌝ }
+{
+    check_spec(p, 2, encoder_depth(p.bits_per_sample))
+}
+
+fn framed(which: Container, words: &[i32], bytes: &[u8], channels: u16) -> Framed
+    ensures { λ r. ⌜ r ≡ framesIn (record { 0 = length (lentOf which (now (words .entry)) (now (bytes .entry))) }) channels ⌝ }
+{
+    let samples = Samples(lent::count(which, words, bytes) as u64);
+    samples.frames(channels)
+}
+
+// 32.
+fn check_values(which: Container, words: &[i32], bytes: &[u8], bits: u16) -> Checked
+    ensures { λ r. ⌜ r ≡ refuse (not (every (within (depthOf bits)) (lentOf which (now (words .entry)) (now (bytes .entry))))) ValueOutside ⌝ }
+{
+    if lent::all_within(which, words, bytes, Depth::of(bits)) {} else {
+        return Checked::No(Refusal::ValueOutside);
+    }
+    Checked::Fine
+}
+
+// 31 to 33.
+pub fn check_samples(which: Container, words: &[i32], bytes: &[u8], p: PcmSpec) -> Checked
+    requires { ⌜ 1 ≤ p .channels ⌝ }
+    ensures { λ r. ⌜ r ≡ checkSamples p (lentOf which (now (words .entry)) (now (bytes .entry))) ⌝ }
+{
+    match framed(which, words, bytes, p.channels) {
+        Framed::Incomplete => Checked::No(Refusal::IncompleteFrame),
+        Framed::Whole(_) => check_values(which, words, bytes, p.bits_per_sample),
+        Framed::TooMany => {
+            if let Checked::No(r) = check_values(which, words, bytes, p.bits_per_sample) {
+                return Checked::No(r);
+            }
+            Checked::No(Refusal::TooManyFrames)
+        }
+    }
+}
+
+// How many frames the samples are, once 31 to 33 have passed.
+pub fn frames_of(which: Container, words: &[i32], bytes: &[u8], channels: u16) -> Frames
+    requires { ⌜ (1 ≤ channels) × (length (lentOf which (now words) (now bytes)) ≡ channels * (length (lentOf which (now words) (now bytes)) / channels)) × (length (lentOf which (now words) (now bytes)) / channels < 4294967296) ⌝ }
+    ensures { λ r. ⌜ r .0 ≡ length (lentOf which (now (words .entry)) (now (bytes .entry))) / channels ⌝ }
+{
+    match framed(which, words, bytes, channels) {
+        Framed::Whole(frames) => frames,
+        // neither is left by 31 and 33
+        Framed::Incomplete => Frames(0),
+        Framed::TooMany => Frames(0),
+    }
+}

@@ -1,0 +1,2 @@
+-- the bytes of a number
+pub mod Laws

@@ -1,0 +1,26 @@
+-- `write_bytes::put_u16_le` meets its contract: the two stores are the number's two digits to 256.
+use native.Mathlib.Numerals.{towards-suc}
+use native.Mathlib.Omega.{arith}
+use lib.ListN.{length-set}
+use borrow.Author.Needs.{needs}
+use Rattle.write_bytes.proofs.Laws.{le-two}
+use Rattle.write_bytes.proofs.put_u16_le.Statement.{statement}
+use Rattle.write_bytes.proofs.put_u16_le.Tie as tie
+
+slice-write-s-2 : tie.Need-slice-write-s-2
+slice-write-s-2 c = simp length-set (omega arith)
+
+returns : tie.Need-returns
+returns c = rw (le-two (c .args .n) (c .fits .n .fits)) (simp towards-suc)
+
+pub put-u16-le-spec : {M : Type 1} → statement M
+put-u16-le-spec =
+    tie.close
+    (tie.spec
+    (λ c. search needs)
+    (λ c. search needs)
+    (λ c. search needs)
+    (λ c. search needs)
+    slice-write-s-2
+    (λ c. search needs)
+    returns)

@@ -1,0 +1,109 @@
+-- What the checks before sizes answer at each way out, and what they tell once passed.
+use Prim.Native.Nat.{ℕ, _*_, _/_, _<_, _≤_}
+use mathlib.Core.Path.{_≡_, sym, ap, _∙_}
+use mathlib.Core.Bool.{Bool, true, false, not}
+use mathlib.Core.List.{List}
+use lib.ListN.{length}
+use lib.IntN.{ℤ}
+use borrow.Author.Tests.{ne-eqb}
+use Rattle.format.specs.Lists.{anyBelow}
+use Rattle.format.specs.Header.{groupsOf}
+use Rattle.format.specs.Refusals.{refuse, _then_}
+use Rattle.format.specs.Encoding.{plain, parity, groupIn, checkEncoder, checkSamples, isMidSide, checkStereo}
+use Rattle.format.specs.declared.refusals.Refusal.{Refusal}
+use Rattle.format.specs.declared.refusals.Refusal.the-variants.{NotStereo, ParityDiffers}
+use Rattle.format.specs.declared.refusals.Checked.{Checked}
+use Rattle.format.specs.declared.refusals.Checked.the-variants.{Fine, No}
+use Rattle.format.specs.declared.settings.PcmSpec.{PcmSpec}
+use Rattle.format.specs.declared.settings.StereoMode.{StereoMode}
+use Rattle.format.specs.declared.settings.StereoMode.the-variants.{Auto, Direct, MidSide}
+use Rattle.format.specs.declared.units.Frames.{Frames}
+use Rattle.laws.proofs.Checks.{passed, first-fine, others-fine}
+use Rattle.laws.proofs.Signs.{holds-every}
+use Rattle.laws.proofs.SampleChecks.{encoder-ok, frames-ok, values-ok, count-ok}
+use Rattle.writer.specs.Accepted.{Accepted}
+
+-- ---- 34, 35
+module _ (p : PcmSpec) (mode : StereoMode) (s : List ℤ) where
+  pub stereo-auto : mode ≡ Auto → Fine ≡ checkStereo p mode s
+  unfolding checkStereo isMidSide refuse _then_
+  stereo-auto e = rw e
+
+  pub stereo-direct : mode ≡ Direct → Fine ≡ checkStereo p mode s
+  unfolding checkStereo isMidSide refuse _then_
+  stereo-direct e = rw e
+
+  module _ (e : mode ≡ MidSide) where
+    pub not-stereo : (p .channels ≡ 2 → ⊥) → No NotStereo ≡ checkStereo p mode s
+    unfolding checkStereo isMidSide refuse _then_
+    not-stereo h = rw (e, ne-eqb (p .channels) 2 h)
+
+    module _ (two : p .channels ≡ 2) where
+      pub count-two : length s / p .channels < 4294967296 → length s / 2 < 4294967296
+      count-two h = rw two at h
+
+      pub exact-two : length s ≡ p .channels * (length s / p .channels) → length s ≡ 2 * (length s / 2)
+      exact-two h = rw two at h
+
+      module _ (f : Frames) (counts : f .0 ≡ length s / 2) where
+        pub whole-two : length s ≡ p .channels * (length s / p .channels) → length s ≡ 2 * f .0
+        whole-two h = exact-two h ∙ ap (λ (n : ℕ). 2 * n) (sym counts)
+
+        module _ (t : Bool) (finds : t ≡ anyBelow (λ g. not (parity (plain 2 (groupIn 2 s g)))) (groupsOf (f .0))) where
+          by-parity : refuse t ParityDiffers ≡ checkStereo p mode s
+          unfolding checkStereo isMidSide _then_ refuse
+          by-parity = rw (e, two) (ap (λ (b : Bool). refuse b ParityDiffers) (finds ∙ ap (λ (n : ℕ). anyBelow (λ g. not (parity (plain 2 (groupIn 2 s g)))) (groupsOf n)) counts))
+
+          pub parity-bad : t ≡ true → No ParityDiffers ≡ checkStereo p mode s
+          unfolding refuse
+          parity-bad h = sym (ap (λ (b : Bool). refuse b ParityDiffers) h) ∙ by-parity
+
+          pub parity-good : t ≡ false → Fine ≡ checkStereo p mode s
+          unfolding refuse
+          parity-good h = sym (ap (λ (b : Bool). refuse b ParityDiffers) h) ∙ by-parity
+
+-- ---- 30 to 35
+abbrev pub checkInput : PcmSpec → StereoMode → List ℤ → Checked
+checkInput p mode s = checkEncoder p then checkSamples p s then checkStereo p mode s
+
+module _ (p : PcmSpec) (mode : StereoMode) (s : List ℤ) (a : Checked) (spec : a ≡ checkEncoder p) where
+  pub input-spec : (r : Refusal) → a ≡ No r → No r ≡ checkInput p mode s
+  unfolding _then_
+  input-spec r t = rw (← spec, t)
+
+  module _ (fine : a ≡ Fine) where
+    pub input-some : 1 ≤ p .channels
+    input-some = encoder-ok p (sym spec ∙ fine) .some
+
+    module _ (b : Checked) (samples : b ≡ checkSamples p s) where
+      pub input-samples : (r : Refusal) → b ≡ No r → No r ≡ checkInput p mode s
+      unfolding _then_
+      input-samples r t = rw (← spec, fine, ← samples, t)
+
+      module _ (good : b ≡ Fine) where
+        pub input-whole : length s ≡ p .channels * (length s / p .channels)
+        input-whole = frames-ok p s (sym samples ∙ good)
+
+        pub input-count : length s / p .channels < 4294967296
+        input-count = count-ok p s (sym samples ∙ good)
+
+        pub input-rest : (k : Checked) → k ≡ checkStereo p mode s → k ≡ checkInput p mode s
+        unfolding _then_
+        input-rest k e = rw (← spec, fine, ← samples, good) e
+
+-- what they leave
+pub accepted : (p : PcmSpec) (mode : StereoMode) (s : List ℤ) → checkInput p mode s ≡ Fine → Accepted p mode s
+unfolding checkStereo
+accepted p mode s fine =
+    let rest = others-fine (checkEncoder p) _ fine in
+    let spec = encoder-ok p (first-fine _ _ fine) in
+    let ok = first-fine (checkSamples p s) _ rest in
+    record {
+      some = spec .some;
+      low = spec .low;
+      high = spec .high;
+      whole = frames-ok p s ok;
+      count = count-ok p s ok;
+      hold = holds-every (p .«bits_per_sample») s (values-ok p s ok (spec .depth));
+      stereo = passed _ _ (first-fine _ _ (others-fine (checkSamples p s) _ rest));
+    }

@@ -1,0 +1,8 @@
+-- groups as runs of frames; the loops over them; table and groups; header and file
+pub mod Runs
+pub mod Groups
+pub mod Filling
+pub mod Heading
+-- what the checks tell, and what encoding answers at each way out
+pub mod Input
+pub mod Ways

@@ -1,0 +1,34 @@
+use borrow.Author.Needs.{needs}
+use Rattle.writer.proofs.Input.{input-spec, input-some, input-samples, input-whole, input-count, input-rest}
+use Rattle.writer.proofs.checking.check_input.Statement.{statement}
+use Rattle.writer.proofs.checking.check_input.Tie as tie
+
+returns : tie.Need-returns
+returns c = search input-spec
+
+check-samples-requires : tie.Need-check-samples-requires
+check-samples-requires c κs = search input-some
+
+returns-2 : tie.Need-returns-2
+returns-2 c = search input-samples
+
+check-stereo-requires : tie.Need-check-stereo-requires
+check-stereo-requires c κs = (search input-some, search input-whole, search input-count)
+
+returns-3 : tie.Need-returns-3
+returns-3 c = search input-rest
+
+pub check-input-spec : {M : Type 1} → statement M
+check-input-spec =
+    tie.close
+    (tie.spec
+    (λ c κs. search needs)
+    (λ c. search needs)
+    returns
+    (λ c. search needs)
+    check-samples-requires
+    (λ c. search needs)
+    returns-2
+    (λ c. search needs)
+    check-stereo-requires
+    returns-3)

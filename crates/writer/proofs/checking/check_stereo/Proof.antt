@@ -1,0 +1,40 @@
+use borrow.Author.Needs.{needs}
+use Rattle.writer.proofs.Input.{stereo-auto, stereo-direct, not-stereo, count-two, exact-two, whole-two, parity-bad, parity-good}
+use Rattle.writer.proofs.checking.check_stereo.Statement.{statement}
+use Rattle.writer.proofs.checking.check_stereo.Tie as tie
+
+returns : tie.Need-returns
+returns c = search not-stereo
+
+frames-of-requires : tie.Need-frames-of-requires
+frames-of-requires c κs = (search needs, search exact-two, search count-two)
+
+parity-differs-requires : tie.Need-parity-differs-requires
+parity-differs-requires c κs = search whole-two
+
+returns-2 : tie.Need-returns-2
+returns-2 c = search parity-bad
+
+returns-3 : tie.Need-returns-3
+returns-3 c = search stereo-auto
+
+returns-4 : tie.Need-returns-4
+returns-4 c = search stereo-direct
+
+returns-5 : tie.Need-returns-5
+returns-5 c = search parity-good
+
+pub check-stereo-spec : {M : Type 1} → statement M
+check-stereo-spec =
+    tie.close
+    (tie.spec
+    (λ c. search needs)
+    (λ c. search needs)
+    (λ c. search needs)
+    returns
+    frames-of-requires
+    parity-differs-requires
+    returns-2
+    returns-3
+    returns-4
+    returns-5)

@@ -1,0 +1,54 @@
+// Encoding: encode_pcm of writer.rs. Every refusal and the length are found first; then the file is written.
+mod checking;
+mod sizing;
+mod writing;
+
+use crate::checking::check_input;
+use crate::sizing::data_size;
+use crate::sizing::data_start;
+use crate::writing::write_file;
+use format::Answer;
+use format::Checked;
+use format::Outcome;
+use format::PcmSpec;
+use format::Refusal;
+use format::StereoMode;
+use lent::Container;
+ghost use mathlib.Core.Path.{_≡_};
+ghost use lib.ListN.{length};
+ghost use Rattle.format.specs.Encoding.{encodeOf, encodeInto};
+ghost use Rattle.lent.specs.Lent.{lentOf};
+
+// Encoding from either container.
+pub fn encode_lent(
+    which: Container,
+    words: &[i32],
+    bytes: &[u8],
+    p: PcmSpec,
+    mode: StereoMode,
+    out: &mut [u8],
+) -> Answer
+    ensures answers { λ r. ⌜ r ≡ encodeOf p mode (lentOf which (now (words .entry)) (now (bytes .entry))) (length (now (out .entry))) ⌝ }
+    ensures puts { λ _. ⌜ now (out .exit) ≡ encodeInto p mode (lentOf which (now (words .entry)) (now (bytes .entry))) (now (out .entry)) ⌝ }
+{
+    if let Checked::No(r) = check_input(which, words, bytes, p, mode) {
+        return Answer::refused(r);
+    }
+    let frames = pcm::frames_of(which, words, bytes, p.channels);
+    let size = data_size(which, words, bytes, p, mode, frames.0);
+    if 0xFFFF_FFFF < size {
+        return Answer::refused(Refusal::DataTooLarge);
+    }
+    let end = data_start(frames.0) as u64 + size;
+    if (out.len() as u64) < end {
+        return Answer::refused(Refusal::OutputTooShort);
+    }
+    write_file(which, words, bytes, p, mode, frames.0, size as u32, out);
+    Answer::of(Outcome::Wrote(end))
+}
+
+pub fn encode_pcm(samples: &[i32], spec: PcmSpec, mode: StereoMode, out: &mut [u8]) -> Answer
+    ensures { λ r. ⌜ (r ≡ encodeOf spec mode (now (samples .entry)) (length (now (out .entry)))) × (now (out .exit) ≡ encodeInto spec mode (now (samples .entry)) (now (out .entry))) ⌝ }
+{
+    encode_lent(Container::Words, samples, &[], spec, mode, out)
+}
