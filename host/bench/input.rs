@@ -1,35 +1,54 @@
 //! A row's samples, and the file that the original makes of them. They depend on nothing but the row.
 use crate::files::bits_words;
 use crate::random::Random;
-use crate::rows::{Row, Width};
-use ncw::{encode_pcm, PcmSpec, StereoMode};
+use crate::rows::{Form, Row, Width};
+use ncw::{encode_pcm, PcmSpec, StereoMode, SAMPLES_PER_BLOCK};
 
 const RATE: u32 = 44_100;
 const SEED: u64 = 1;
 
+/// The width of side where it is narrow.
+const NARROW: i16 = 2;
+
 pub struct Input {
     pub samples: Vec<i32>,
+    pub spec: PcmSpec,
+    pub mode: StereoMode,
     pub file: Vec<u8>,
 }
 
 impl Input {
     pub fn of(row: &Row) -> Self {
         let samples = samples(row);
-        let spec = PcmSpec { channels: row.channels, bits_per_sample: row.depth, sample_rate: RATE };
-        let file = encode_pcm(&samples, spec, row.mode).expect("the samples can be encoded");
-        if let Width::Bits(bits) = row.width {
-            let word = if bits < row.depth.into() { bits as i16 } else { -(bits as i16) };
-            assert!(bits_words(&file).iter().all(|found| *found == word), "every block has the row's width: {row:?}");
-        }
-        Input { samples, file }
+        let spec = PcmSpec { channels: row.form.channels(), bits_per_sample: row.depth, sample_rate: RATE };
+        let mode = row.form.mode();
+        let file = encode_pcm(&samples, spec, mode).expect("the samples can be encoded");
+        assert!(has_widths(row, &file), "every block has the row's width: {row:?}");
+        assert!(has_form(row, &file), "every group has the row's form: {row:?}");
+        Input { samples, spec, mode, file }
     }
+}
+
+fn has_widths(row: &Row, file: &[u8]) -> bool {
+    let Width::Bits(bits) = row.width else { return true };
+    let word = if bits < row.depth.into() { bits as i16 } else { -(bits as i16) };
+    let words = if row.form == Form::AutoMidSide { [word, NARROW] } else { [word; 2] };
+    bits_words(file).iter().zip(words.iter().cycle()).all(|(found, word)| found == word)
+}
+
+/// By the flags of each group's first block.
+fn has_form(row: &Row, file: &[u8]) -> bool {
+    let number = |at: usize| u32::from_le_bytes([file[at], file[at + 1], file[at + 2], file[at + 3]]) as usize;
+    let (table, start) = (number(20), number(24));
+    let mut groups = (table..start - 4).step_by(4);
+    groups.all(|entry| file[start + number(entry) + 10] == u8::from(row.form.is_mid_side()))
 }
 
 fn samples(row: &Row) -> Vec<i32> {
     let mut random = Random::new(SEED);
     let mut bits = 0;
     let mut frame = |k: usize| {
-        if k % ncw::SAMPLES_PER_BLOCK == 0 {
+        if k % SAMPLES_PER_BLOCK == 0 {
             bits = match row.width {
                 Width::Bits(bits) => bits,
                 Width::Mixed => random.between(2, row.depth.into()) as u32,
@@ -37,18 +56,30 @@ fn samples(row: &Row) -> Vec<i32> {
         }
         frame_of(row, bits, &mut random)
     };
-    (0..row.seconds * RATE as usize).flat_map(|k| frame(k).into_iter().take(row.channels.into())).collect()
+    (0..row.seconds * RATE as usize).flat_map(|k| frame(k).into_iter().take(row.form.channels().into())).collect()
 }
 
 /// A frame of a group whose differences take so many bits, of mid and side where they are what is coded.
 fn frame_of(row: &Row, bits: u32, random: &mut Random) -> [i32; 2] {
-    if bits == row.depth.into() {
-        let [left, right] = [random.signed(bits), random.signed(bits)];
-        return [left, right & !1 | left & 1];
-    }
-    let [first, second] = [random.below(1 << (bits - 1)) as i32, random.below(1 << (bits - 1)) as i32];
-    match row.mode {
-        StereoMode::MidSide => [first + second, first - second],
+    let raw = bits == row.depth.into();
+    let [first, second] = match raw {
+        true => [random.signed(bits), random.signed(bits)],
+        false => [random.below(1 << (bits - 1)) as i32, random.below(1 << (bits - 1)) as i32],
+    };
+    let even = [first, second & !1 | first & 1];
+    match row.form {
+        Form::AutoMidSide => beside(first, second & 1, row.depth),
+        Form::AutoDirect => even,
+        Form::AutoOdd => [first, second],
+        Form::MidSide if !raw => [first + second, first - second],
+        _ if raw => even,
         _ => [first, second],
     }
+}
+
+/// Left and right of a mid within the depth and a side of 0 or 1.
+fn beside(mid: i32, side: i32, depth: u16) -> [i32; 2] {
+    let most = (1 << (depth - 1)) - 2;
+    let mid = mid.clamp(-most, most);
+    [mid + side, mid - side]
 }

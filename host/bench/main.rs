@@ -1,5 +1,7 @@
-//! Decoding by the Rust original and by ours, timed in turns on the same files: bench [--short]
+//! The Rust original and ours, timed in turns on the same files or samples: bench [encode] [--short]
 mod clock;
+mod decoding;
+mod encoding;
 #[allow(dead_code)]
 #[path = "../definitions/files.rs"]
 mod files;
@@ -8,45 +10,69 @@ mod input;
 #[path = "../definitions/random.rs"]
 mod random;
 mod rows;
-mod sides;
 
 use input::Input;
 use rows::Row;
-use sides::Best;
 
-const HEAD: &str = "\
-Million samples a second, 4 bytes each, the best of several turns. Ratios are to the Rust.
+/// What is timed. The sides are the original, ours into lent room, ours as a drop-in, and any others.
+struct Work {
+    rows: fn(usize) -> Vec<Row>,
+    /// The columns of the sides.
+    sides: &'static str,
+    /// Whether all sides give the same.
+    agree: fn(&Input) -> Result<(), &'static str>,
+    /// The least time of each side in so many turns.
+    times: fn(&Input, usize) -> Vec<f64>,
+}
 
-| length | form | depth | width | Rust | lent | drop-in | copy | lent ratio | drop-in ratio |
-|---|---|---|---|---|---|---|---|---|---|";
+const DECODING: Work = Work {
+    rows: rows::to_decode,
+    sides: "Rust | lent | drop-in | copy",
+    agree: decoding::agree,
+    times: decoding::times,
+};
+
+const ENCODING: Work =
+    Work { rows: rows::to_encode, sides: "Rust | lent | drop-in", agree: encoding::agree, times: encoding::times };
+
+const SHORT: [usize; 1] = [10];
+const ALL: [usize; 2] = [10, 600];
 
 fn main() {
     let args: Vec<String> = std::env::args().skip(1).collect();
-    let rows = match args.iter().map(String::as_str).collect::<Vec<_>>()[..] {
-        [] => [rows::of(10), rows::of(600)].concat(),
-        ["--short"] => rows::of(10),
-        _ => stop("usage: bench [--short]"),
+    match args.iter().map(String::as_str).collect::<Vec<_>>()[..] {
+        [] => DECODING.run(&ALL),
+        ["--short"] => DECODING.run(&SHORT),
+        ["encode"] => ENCODING.run(&ALL),
+        ["encode", "--short"] | ["--short", "encode"] => ENCODING.run(&SHORT),
+        _ => stop("usage: bench [encode] [--short]"),
     };
-    println!("{HEAD}");
-    let ratios: Vec<[f64; 2]> = rows.iter().map(measure).collect();
-    let lowest = |k: usize| ratios.iter().map(|ratio| ratio[k]).fold(f64::INFINITY, f64::min);
-    println!("\nThe lowest ratio of {} rows: lent {:.2}, drop-in {:.2}", rows.len(), lowest(0), lowest(1));
 }
 
-/// Prints a row's line, and gives its ratios.
-fn measure(row: &Row) -> [f64; 2] {
-    let input = Input::of(row);
-    if let Err(words) = sides::agree(&input) {
-        stop(&format!("{row:?}: {words}"));
+impl Work {
+    /// Prints the table of all rows of so many seconds each.
+    fn run(&self, lengths: &[usize]) {
+        let rows: Vec<Row> = lengths.iter().flat_map(|seconds| (self.rows)(*seconds)).collect();
+        println!("Million samples a second, 4 bytes each, the best of several turns. Ratios are to the Rust.\n");
+        println!("| length | form | depth | width | {} | lent ratio | drop-in ratio |", self.sides);
+        println!("|{}", "---|".repeat(7 + self.sides.split('|').count() - 1));
+        let ratios: Vec<[f64; 2]> = rows.iter().map(|row| self.measure(row)).collect();
+        let lowest = |k: usize| ratios.iter().map(|ratio| ratio[k]).fold(f64::INFINITY, f64::min);
+        println!("\nThe lowest ratio of {} rows: lent {:.2}, drop-in {:.2}", rows.len(), lowest(0), lowest(1));
     }
-    let best = Best::of(&input, if row.seconds > 60 { 3 } else { 11 });
-    let rates = [best.original, best.lent, best.drop_in, best.copy].map(|time| input.samples.len() as f64 / time / 1e6);
-    let ratios = [best.original / best.lent, best.original / best.drop_in];
-    println!(
-        "| {row} | {:.0} | {:.0} | {:.0} | {:.0} | {:.2} | {:.2} |",
-        rates[0], rates[1], rates[2], rates[3], ratios[0], ratios[1]
-    );
-    ratios
+
+    /// Prints a row's line, and gives its ratios.
+    fn measure(&self, row: &Row) -> [f64; 2] {
+        let input = Input::of(row);
+        if let Err(words) = (self.agree)(&input) {
+            stop(&format!("{row:?}: {words}"));
+        }
+        let times = (self.times)(&input, if row.seconds > 60 { 3 } else { 11 });
+        let rates = times.iter().map(|time| format!("{:.0} |", input.samples.len() as f64 / time / 1e6));
+        let ratios = [times[0] / times[1], times[0] / times[2]];
+        println!("| {row} | {} {:.2} | {:.2} |", rates.collect::<Vec<_>>().join(" "), ratios[0], ratios[1]);
+        ratios
+    }
 }
 
 fn stop(words: &str) -> ! {

@@ -1,4 +1,4 @@
-//! What is decoded: how long, how many channels, which depth, which form, which width.
+//! What is decoded or encoded: how long, which form, which depth, which width.
 use ncw::StereoMode;
 use std::fmt;
 
@@ -10,41 +10,93 @@ pub enum Width {
     Mixed,
 }
 
+#[derive(Clone, Copy, Debug, PartialEq)]
+pub enum Form {
+    Mono,
+    Stereo,
+    MidSide,
+    /// Auto, where mid/side is smaller in every group: side is narrow.
+    AutoMidSide,
+    /// Auto, where mid/side could be taken and is not smaller.
+    AutoDirect,
+    /// Auto, where frames differ in parity.
+    AutoOdd,
+}
+
+impl Form {
+    pub fn channels(self) -> u16 {
+        if self == Form::Mono {
+            1
+        } else {
+            2
+        }
+    }
+
+    pub fn mode(self) -> StereoMode {
+        match self {
+            Form::Mono | Form::Stereo => StereoMode::Direct,
+            Form::MidSide => StereoMode::MidSide,
+            Form::AutoMidSide | Form::AutoDirect | Form::AutoOdd => StereoMode::Auto,
+        }
+    }
+
+    /// Whether every group is mid/side.
+    pub fn is_mid_side(self) -> bool {
+        matches!(self, Form::MidSide | Form::AutoMidSide)
+    }
+
+    fn name(self) -> &'static str {
+        match self {
+            Form::Mono => "mono",
+            Form::Stereo => "stereo",
+            Form::MidSide => "mid/side",
+            Form::AutoMidSide => "auto, mid/side",
+            Form::AutoDirect => "auto, direct",
+            Form::AutoOdd => "auto, odd",
+        }
+    }
+}
+
 #[derive(Clone, Copy, Debug)]
 pub struct Row {
     pub seconds: usize,
-    pub channels: u16,
+    pub form: Form,
     pub depth: u16,
-    pub mode: StereoMode,
     pub width: Width,
 }
 
-const FORMS: [(u16, StereoMode); 3] = [(1, StereoMode::Direct), (2, StereoMode::Direct), (2, StereoMode::MidSide)];
+const DECODED: [Form; 3] = [Form::Mono, Form::Stereo, Form::MidSide];
+const ENCODED: [Form; 6] =
+    [Form::Mono, Form::Stereo, Form::MidSide, Form::AutoMidSide, Form::AutoDirect, Form::AutoOdd];
 
 const WIDTHS: [(u16, [Width; 6]); 2] = [
     (16, [Width::Bits(2), Width::Bits(8), Width::Bits(12), Width::Bits(15), Width::Bits(16), Width::Mixed]),
     (24, [Width::Bits(3), Width::Bits(8), Width::Bits(14), Width::Bits(23), Width::Bits(24), Width::Mixed]),
 ];
 
-/// Every row of one length.
-pub fn of(seconds: usize) -> Vec<Row> {
-    let depths = FORMS.iter().flat_map(|form| WIDTHS.iter().map(move |widths| (form, widths)));
-    let row = |&(channels, mode), depth, &width| Row { seconds, channels, depth, mode, width };
+/// Every row of one length that is decoded.
+pub fn to_decode(seconds: usize) -> Vec<Row> {
+    of(&DECODED, seconds)
+}
+
+/// Every row of one length that is encoded.
+pub fn to_encode(seconds: usize) -> Vec<Row> {
+    of(&ENCODED, seconds)
+}
+
+fn of(forms: &[Form], seconds: usize) -> Vec<Row> {
+    let depths = forms.iter().flat_map(|form| WIDTHS.iter().map(move |widths| (*form, widths)));
+    let row = move |form, depth, &width| Row { seconds, form, depth, width };
     depths.flat_map(|(form, (depth, widths))| widths.iter().map(move |width| row(form, *depth, width))).collect()
 }
 
 impl fmt::Display for Row {
     fn fmt(&self, f: &mut fmt::Formatter) -> fmt::Result {
-        let channels = match (self.channels, self.mode) {
-            (1, _) => "mono",
-            (_, StereoMode::MidSide) => "mid/side",
-            _ => "stereo",
-        };
         let width = match self.width {
             Width::Mixed => "mixed".to_string(),
             Width::Bits(bits) if bits == self.depth.into() => format!("raw {bits}"),
             Width::Bits(bits) => bits.to_string(),
         };
-        write!(f, "{} s | {channels} | {} | {width}", self.seconds, self.depth)
+        write!(f, "{} s | {} | {} | {width}", self.seconds, self.form.name(), self.depth)
     }
 }

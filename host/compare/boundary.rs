@@ -1,2 +1,2 @@
-//! The two calls of the host boundary, as they are.
-pub use ours::boundary::{decode, open};
+//! The three calls of the host boundary, as they are.
+pub use ours::boundary::{decode, encode, open};

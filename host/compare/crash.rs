@@ -2,12 +2,12 @@
 use std::cell::Cell;
 
 thread_local! {
-    static AT: Cell<(&'static str, usize)> = const { Cell::new(("none", 0)) };
+    static AT: Cell<(&'static str, &'static str, usize)> = const { Cell::new(("none", "none", 0)) };
 }
 
-/// What this thread looks at from now on.
-pub fn now_at(family: &'static str, index: usize) {
-    AT.set((family, index));
+/// What this thread looks at from now on: the words that one input is asked for by, its family and its number.
+pub fn now_at(command: &'static str, family: &'static str, index: usize) {
+    AT.set((command, family, index));
 }
 
 // The C library's.
@@ -28,8 +28,8 @@ pub fn watch() {
 
 /// Little is safe in a handler, but the program is at its end.
 extern "C" fn crashed(number: i32) {
-    let (family, index) = AT.get();
-    println!("a crash, signal {number}: compare --input {family} {index} with the seed above");
+    let (command, family, index) = AT.get();
+    println!("a crash, signal {number}: {command} --input {family} {index} with the seed above");
     // SAFETY: it ends the program, without waiting for other threads.
     unsafe { _exit(1) }
 }

@@ -1,4 +1,4 @@
-//! The Rust original and ours on the same files.
+//! The Rust original and ours on the same inputs.
 #[allow(dead_code)]
 #[path = "../definitions/asking.rs"]
 mod asking;
@@ -10,8 +10,8 @@ mod boundary;
 #[cfg(planted)]
 #[path = "planted/boundary.rs"]
 mod boundary;
-mod check;
 mod crash;
+mod encoding;
 mod families;
 #[allow(dead_code)]
 #[path = "../definitions/faults.rs"]
@@ -19,41 +19,49 @@ mod faults;
 #[allow(dead_code)]
 #[path = "../definitions/files.rs"]
 mod files;
+mod input;
 #[path = "../definitions/inputs.rs"]
 mod inputs;
+mod lent;
 #[path = "../definitions/orders.rs"]
 mod orders;
 mod parts;
 #[path = "../definitions/random.rs"]
 mod random;
+mod reading;
 mod report;
-mod rooms;
 mod run;
 #[path = "../definitions/samples.rs"]
 mod samples;
 mod shrink;
-mod sides;
 
-use check::{check, Tally};
+use encoding::Call;
+use input::{Input, Tally};
 use std::process::exit;
 use std::str::FromStr;
 use std::time::{Instant, SystemTime, UNIX_EPOCH};
 
 const COUNT: usize = 2_000_000;
 
-const USAGE: &str = "usage: compare [COUNT] [SEED] | compare --file FILE | compare --input FAMILY INDEX [SEED]";
+const USAGE: &str = "\
+usage: compare [COUNT] [SEED] | compare --file FILE | compare --input FAMILY INDEX [SEED]
+       compare encode [COUNT] [SEED] | compare encode --input FAMILY INDEX [SEED]
+       compare encode --samples FILE CHANNELS DEPTH RATE MODE";
 
 fn main() {
     crash::watch();
     let args: Vec<String> = std::env::args().skip(1).collect();
     let same = match args.iter().map(String::as_str).collect::<Vec<_>>()[..] {
-        ["--file", path] => one(&std::fs::read(path).unwrap_or_else(|error| stop(&format!("{path}: {error}")))),
-        ["--input", family, index] => one(&input(family, number(index), 0)),
-        ["--input", family, index, seed] => one(&input(family, number(index), number(seed))),
-        [] => all(COUNT, any_seed()),
-        [count] => all(number(count), any_seed()),
-        [count, seed] => all(number(count), number(seed)),
-        _ => stop(USAGE),
+        ["--file", path] => one(&bytes_of(path)),
+        ["encode", "--samples", path, channels, depth, rate, mode] => one(&Call {
+            samples: bytes_of(path),
+            channels: number(channels),
+            depth: number(depth),
+            rate: number(rate),
+            mode: number(mode),
+        }),
+        ["encode", ref words @ ..] => asked::<Call>(words),
+        ref words => asked::<Vec<u8>>(words),
     };
     exit(if same { 0 } else { 1 });
 }
@@ -67,23 +75,39 @@ fn number<N: FromStr>(word: &str) -> N {
     word.parse().unwrap_or_else(|_| stop(USAGE))
 }
 
+fn bytes_of(path: &str) -> Vec<u8> {
+    std::fs::read(path).unwrap_or_else(|error| stop(&format!("{path}: {error}")))
+}
+
+/// A run, or one input of a run.
+fn asked<I: Input>(words: &[&str]) -> bool {
+    match *words {
+        ["--input", family, index] => one(&input::<I>(family, number(index), 0)),
+        ["--input", family, index, seed] => one(&input::<I>(family, number(index), number(seed))),
+        [] => all::<I>(COUNT, any_seed()),
+        [count] => all::<I>(number(count), any_seed()),
+        [count, seed] => all::<I>(number(count), number(seed)),
+        _ => stop(USAGE),
+    }
+}
+
 fn any_seed() -> u64 {
     SystemTime::now().duration_since(UNIX_EPOCH).map_or(1, |since| since.as_secs())
 }
 
-fn input(family: &str, index: usize, seed: u64) -> Vec<u8> {
-    let families = families::all(usize::MAX, seed);
+fn input<I: Input>(family: &str, index: usize, seed: u64) -> I {
+    let families = I::families(usize::MAX, seed);
     match families.iter().find(|known| known.name == family && index < known.count()) {
         Some(known) => known.input(index),
         None => stop("There is no such input."),
     }
 }
 
-/// Whether both sides are the same on all the files.
-fn all(count: usize, seed: u64) -> bool {
-    println!("seed {seed}, {count} files asked for");
+/// Whether both sides are the same on all the inputs.
+fn all<I: Input>(count: usize, seed: u64) -> bool {
+    println!("seed {seed}, {count} {} asked for", I::NAME);
     let begun = Instant::now();
-    let run = run::run(&families::all(count, seed));
+    let run = run::run(&I::families(count, seed));
     report::table(&run);
     println!("{} s", begun.elapsed().as_secs());
     println!("{} differences", run.found.len());
@@ -93,10 +117,10 @@ fn all(count: usize, seed: u64) -> bool {
     run.found.is_empty()
 }
 
-/// Whether both sides are the same on a file.
-fn one(file: &[u8]) -> bool {
+/// Whether both sides are the same on an input.
+fn one<I: Input>(input: &I) -> bool {
     let mut tally = Tally::default();
-    let difference = check(file, &mut tally).err();
+    let difference = input.check(&mut tally).err();
     report::one(&tally, difference.as_ref());
     difference.is_none()
 }

@@ -1,4 +1,4 @@
-//! The two calls of the host boundary, with a fault planted after the second: `PLANTED` says which.
+//! The calls of the host boundary, with a fault planted after decoding and encoding: `PLANTED` says which.
 use std::sync::OnceLock;
 
 pub use ours::boundary::open;
@@ -11,13 +11,28 @@ fn planted() -> &'static str {
 }
 
 pub fn decode(file: &[u8], samples: &mut [u8]) -> u64 {
-    let answer = ours::boundary::decode(file, samples);
-    let room = samples.len() as u64;
+    spoiled(ours::boundary::decode(file, samples), samples)
+}
+
+pub fn encode(samples: &[u8], channels: u16, depth: u16, rate: u32, mode: u32, file: &mut [u8]) -> u64 {
+    let answer = ours::boundary::encode(samples, channels, depth, rate, mode, file);
+    if planted() == "a byte of the samples changed" && !samples.is_empty() {
+        // SAFETY: there is none. A call by pointers could do this, and it is planted to see that it is found.
+        unsafe { samples.as_ptr().cast_mut().write_volatile(samples[0] ^ 0x40) }
+    }
+    spoiled(answer, file)
+}
+
+/// A call's answer, with the fault in it or in its room.
+fn spoiled(answer: u64, lent: &mut [u8]) -> u64 {
+    let room = lent.len() as u64;
     match planted() {
-        "changed on a refusal" if answer >= REFUSED => spoil(samples.last_mut()),
-        "changed after the samples" if answer < room => spoil(samples.get_mut(answer as usize)),
-        "changed at the end of the room" if answer + 8 < room => spoil(samples.last_mut()),
-        "last sample not written" if 0 < answer && answer <= room => spoil(samples.get_mut(answer as usize - 1)),
+        "changed on a refusal" if answer >= REFUSED => spoil(lent.last_mut()),
+        "changed after the samples" | "changed after the file" if answer < room => spoil(lent.get_mut(answer as usize)),
+        "changed at the end of the room" if answer + 8 < room => spoil(lent.last_mut()),
+        "last sample not written" | "last byte not written" if 0 < answer && answer <= room => {
+            spoil(lent.get_mut(answer as usize - 1))
+        }
         "50 with exact room" if answer == room && room > 0 => return REFUSED + 50,
         "50 before the other refusals" if answer > REFUSED && room == 0 => return REFUSED + 50,
         "a crash" if answer == room => std::process::abort(),

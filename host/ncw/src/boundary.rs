@@ -1,4 +1,4 @@
-//! The two calls of the archive as they are: they answer a length in bytes, or [`REFUSED`] plus the number of a refusal.
+//! The three calls of the archive as they are: they answer a length in bytes, or [`REFUSED`] plus the number of a refusal.
 //!
 //! All that is `unsafe` in this crate is here.
 #![allow(unsafe_code)]
@@ -16,6 +16,16 @@ pub const REFUSED: u64 = 1 << 63;
 extern "C" {
     fn ncw_open(file: *const u8, file_len: usize) -> u64;
     fn ncw_decode(file: *const u8, file_len: usize, samples: *mut u8, samples_len: usize) -> u64;
+    fn ncw_encode(
+        samples: *const u8,
+        samples_len: usize,
+        channels: u16,
+        depth: u16,
+        rate: u32,
+        mode: u32,
+        file: *mut u8,
+        file_len: usize,
+    ) -> u64;
 }
 
 /// Opens a file: how many bytes decoding it would write, if it does not refuse.
@@ -32,8 +42,23 @@ pub fn decode(file: &[u8], samples: &mut [u8]) -> u64 {
     unsafe { ncw_decode(file.as_ptr(), file.len(), samples.as_mut_ptr(), samples.len()) }
 }
 
+/// Encodes samples, 4 bytes each with the lowest first: how many bytes of `file` were written, from the first on. `mode` is 0 for
+/// Auto, 1 for Direct, 2 for MidSide. Where it refuses none is changed, and what lies after the written ones stays.
+pub fn encode(samples: &[u8], channels: u16, depth: u16, rate: u32, mode: u32, file: &mut [u8]) -> u64 {
+    let (from, room) = (samples.as_ptr(), file.as_mut_ptr());
+    // SAFETY: the call reads the bytes of `samples`, writes bytes of `file`, touches no others, and keeps nothing of them.
+    // The borrows keep the two apart.
+    unsafe { ncw_encode(from, samples.len(), channels, depth, rate, mode, room, file.len()) }
+}
+
+/// The same samples as bytes.
+pub(crate) fn as_bytes(samples: &[i32]) -> &[u8] {
+    // SAFETY: the bytes are just those of `samples`, borrowed as long. A byte has no alignment, and every byte is a `u8`.
+    unsafe { slice::from_raw_parts(samples.as_ptr().cast(), size_of_val(samples)) }
+}
+
 /// The same room as bytes.
-pub(crate) fn as_bytes(samples: &mut [i32]) -> &mut [u8] {
+pub(crate) fn as_bytes_mut(samples: &mut [i32]) -> &mut [u8] {
     // SAFETY: the bytes are just those of `samples`, borrowed as long. A byte has no alignment, every byte is a `u8`, and any
     // four bytes are an `i32`.
     unsafe { slice::from_raw_parts_mut(samples.as_mut_ptr().cast(), size_of_val(samples)) }

@@ -3,7 +3,7 @@ use std::error::Error;
 use std::fmt;
 use std::io;
 
-/// Why a file was not opened or not decoded.
+/// Why a file was not opened or not decoded, or samples were not encoded.
 #[derive(Debug)]
 pub enum NcwError {
     /// The input ends too soon (refusal 1, of the kind [`io::ErrorKind::UnexpectedEof`]), or reading it failed.
@@ -63,7 +63,7 @@ const UNKNOWN: &str = "refused by a number that is not known here";
 const NO_MEMORY: &str = "not enough memory for the samples";
 
 impl NcwError {
-    /// The number of the refusal. None where it is not the file that was refused: reading failed, or there was not enough memory.
+    /// The number of the refusal. None where it is not the input that was refused: reading failed, or there was not enough memory.
     ///
     /// An input that ends too soon is 1, whether the file says so by its numbers or the reader by an error of the kind
     /// [`io::ErrorKind::UnexpectedEof`].

@@ -6,8 +6,10 @@ mod error;
 mod opened;
 mod reader;
 mod slices;
+mod writer;
 
 pub use error::NcwError;
 pub use opened::{NcwHeader, Opened, SampleFormat, SAMPLES_PER_BLOCK};
 pub use reader::NcwReader;
 pub use slices::{decode_bytes, decode_into, open};
+pub use writer::{encode_into, encode_pcm, PcmSpec, StereoMode};

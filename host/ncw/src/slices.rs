@@ -9,7 +9,7 @@ use crate::opened::bits_beyond;
 /// assert_eq!(ncw::open(&[]).unwrap_err().number(), Some(1));
 /// ```
 pub fn open(file: &[u8]) -> Result<usize, NcwError> {
-    answered(boundary::open(file), file)
+    answered(boundary::open(file), i16::default)
 }
 
 /// Decodes a file in memory into room that the caller lends: how many samples were written, from the first on. What lies after
@@ -21,7 +21,7 @@ pub fn open(file: &[u8]) -> Result<usize, NcwError> {
 /// assert_eq!(room, [7; 4]);
 /// ```
 pub fn decode_into(file: &[u8], samples: &mut [i32]) -> Result<usize, NcwError> {
-    decode_bytes(file, boundary::as_bytes(samples)).map(|bytes| bytes / 4)
+    decode_bytes(file, boundary::as_bytes_mut(samples)).map(|bytes| bytes / 4)
 }
 
 /// The same with room that is counted in bytes, 4 a sample with the lowest first: how many bytes were written.
@@ -32,12 +32,13 @@ pub fn decode_into(file: &[u8], samples: &mut [i32]) -> Result<usize, NcwError> 
 /// assert_eq!(room, [7; 4]);
 /// ```
 pub fn decode_bytes(file: &[u8], samples: &mut [u8]) -> Result<usize, NcwError> {
-    answered(boundary::decode(file, samples), file)
+    answered(boundary::decode(file, samples), || bits_beyond(file).unwrap_or_default())
 }
 
-fn answered(answer: u64, file: &[u8]) -> Result<usize, NcwError> {
+/// The length that a call answered, or its refusal; `bits` gives the bits word that 4 carries.
+pub(crate) fn answered(answer: u64, bits: impl FnOnce() -> i16) -> Result<usize, NcwError> {
     match answer.checked_sub(boundary::REFUSED) {
         None => Ok(answer as usize),
-        Some(number) => Err(NcwError::refused(number, || bits_beyond(file).unwrap_or_default())),
+        Some(number) => Err(NcwError::refused(number, bits)),
     }
 }

@@ -1,12 +1,10 @@
 //! What either side says of a file: the Rust original, and ours by its drop-in crate.
 use crate::asking::{ask, Answer, Question};
+use crate::input::number_of;
 use std::io::Cursor;
 
 /// Document 01's number, and the bits word where that is 4.
 pub type Refused = (u32, i16);
-
-/// Stands for an error that has no number, which no file is refused by.
-const WITHOUT_NUMBER: u32 = 999;
 
 #[derive(Debug, PartialEq)]
 pub struct Opened {
@@ -70,7 +68,7 @@ pub fn drop_in(file: &[u8]) -> Said {
 }
 
 fn refused(error: ours::NcwError) -> Refused {
-    let number = error.number().unwrap_or(WITHOUT_NUMBER);
+    let number = number_of(&error);
     match error {
         ours::NcwError::UnsupportedBitDepth(bits) => (number, bits),
         _ => (number, 0),

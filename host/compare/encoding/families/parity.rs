@@ -1,0 +1,41 @@
+//! Frames of equal parity but for one, at any place.
+use super::{woven, Call, Part, Picks, DEPTHS, MODES};
+use crate::samples::limits;
+
+const FRAMES: [usize; 11] = [1, 2, 3, 100, 511, 512, 513, 700, 1_024, 1_025, 1_100];
+const PLACES: usize = 8;
+
+/// What is added to left and right of one frame. The last two leave parity equal.
+const ADDED: [(i32, i32); 5] = [(1, 0), (0, 1), (-1, 0), (1, 1), (0, 0)];
+
+const KINDS: usize = 6;
+
+pub fn all() -> Part {
+    Part::new(FRAMES.len() * PLACES * ADDED.len() * KINDS * DEPTHS.len() * MODES.len(), |k| {
+        let picks = &mut Picks(k);
+        let (n, place, added) = (picks.pick(&FRAMES), picks.below(PLACES), picks.pick(&ADDED));
+        let (kind, depth, mode) = (picks.below(KINDS), picks.pick(&DEPTHS), picks.pick(&MODES));
+        let at = [0, 1, n / 2, n.saturating_sub(2), n - 1, 511, 512, 513][place].min(n - 1);
+        let (mut left, mut right) = even(kind, n, depth);
+        left[at] += added.0;
+        right[at] += added.1;
+        Call::new(&woven(&left, &right), 2, depth, mode)
+    })
+}
+
+/// Both channels, of equal parity in every frame: small, of either sign, next to the limits, and alike so that mid/side is smaller.
+fn even(kind: usize, frames: usize, depth: u16) -> (Vec<i32>, Vec<i32>) {
+    let (low, high) = limits(depth);
+    let flat = |left, right| (vec![left; frames], vec![right; frames]);
+    match kind {
+        0 => flat(0, 0),
+        1 => flat(-1, 1),
+        2 => flat(high - 1, high - 1),
+        3 => flat(low + 1, low + 1),
+        4 => flat(high - 1, low + 2),
+        _ => {
+            let rising: Vec<i32> = (0..frames as i32).map(|k| 7 * k % 1_000).collect();
+            (rising.clone(), rising)
+        }
+    }
+}

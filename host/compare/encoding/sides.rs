@@ -1,0 +1,29 @@
+//! What either side makes of a call: the Rust original, and ours by its drop-in crate.
+use super::Call;
+use crate::asking::{ask, Answer, Question};
+use crate::input::number_of;
+use crate::lent::Written;
+
+/// The modes by their numbers.
+const MODES: [ncw::StereoMode; 3] = [ncw::StereoMode::Auto, ncw::StereoMode::Direct, ncw::StereoMode::MidSide];
+const OUR_MODES: [ours::StereoMode; 3] = [ours::StereoMode::Auto, ours::StereoMode::Direct, ours::StereoMode::MidSide];
+
+/// 38 and 39 are document 01's, and come first.
+pub fn original(call: &Call) -> Written {
+    let mode = *MODES.get(call.mode as usize).ok_or(38_u32)?;
+    let samples = call.numbers().ok_or(39_u32)?;
+    let spec = ncw::PcmSpec { channels: call.channels, bits_per_sample: call.depth, sample_rate: call.rate };
+    match ask(&Question::Encode(spec, mode, samples)) {
+        Answer::Bytes(file) => Ok(file),
+        Answer::Refused(number, _) => Err(number),
+        _ => panic!("an answer to another question"),
+    }
+}
+
+/// Nothing where the crate can't be asked: it has no other modes, and no part of a sample.
+pub fn drop_in(call: &Call) -> Option<Written> {
+    let mode = *OUR_MODES.get(call.mode as usize)?;
+    let samples = call.numbers()?;
+    let spec = ours::PcmSpec { channels: call.channels, bits_per_sample: call.depth, sample_rate: call.rate };
+    Some(ours::encode_pcm(&samples, spec, mode).map_err(|error| number_of(&error)))
+}

@@ -1,0 +1,102 @@
+//! What is compared, whatever it is: files to read, or calls to encode.
+use crate::families::Family;
+use crate::shrink::Search;
+use std::collections::BTreeMap;
+use std::fmt::UpperHex;
+use std::panic::{catch_unwind, AssertUnwindSafe};
+
+pub trait Input: Clone + PartialEq + Send {
+    type Answers: Answers;
+
+    /// What many of them are called.
+    const NAME: &'static str;
+    /// What one of them is asked for by.
+    const COMMAND: &'static str;
+
+    /// The families that are run whole, and random inputs from the seed, until there are `count` in all.
+    fn families(count: usize, seed: u64) -> Vec<Family<Self>>;
+
+    /// Both sides on it.
+    fn check(&self, tally: &mut Tally<Self::Answers>) -> Result<(), Difference>;
+
+    /// In bytes.
+    fn size(&self) -> usize;
+
+    /// As small as it becomes while the two sides differ.
+    fn shrink(search: &mut Search<Self>);
+
+    /// What it is besides its bytes, if anything, and those.
+    fn shown(&self) -> (String, &[u8]);
+}
+
+/// What differs, what the Rust or document 01 says, and what ours says.
+#[derive(Clone)]
+pub struct Difference {
+    pub what: String,
+    pub rust: String,
+    pub ours: String,
+}
+
+pub fn differ<T>(what: &str, rust: &str, ours: &str) -> Result<T, Difference> {
+    Err(Difference { what: what.to_string(), rust: rust.to_string(), ours: ours.to_string() })
+}
+
+/// Two lists of the same length differ: the first place where they do.
+pub fn differ_in<T: PartialEq + UpperHex>(what: &str, rust: &[T], ours: &[T]) -> Result<(), Difference> {
+    let at = rust.iter().zip(ours).position(|(rust, ours)| rust != ours).unwrap_or(0);
+    let digits = |list: &[T]| format!("{:0width$X}", list[at], width = 2 * size_of::<T>());
+    differ(&format!("{what} {at}"), &digits(rust), &digits(ours))
+}
+
+/// A panic is a difference.
+pub fn calmly<T>(side: &str, call: impl FnOnce() -> T) -> Result<T, Difference> {
+    catch_unwind(AssertUnwindSafe(call)).or_else(|_| differ(side, "an answer", "a panic"))
+}
+
+/// What was met.
+#[derive(Default)]
+pub struct Tally<A> {
+    pub inputs: u64,
+    pub calls: u64,
+    pub fifties: u64,
+    pub samples: u64,
+    pub answers: A,
+}
+
+/// Which answers were met how often.
+pub trait Answers: Default + Send {
+    fn add(&mut self, other: &Self);
+    fn print(&self);
+}
+
+impl<A: Answers> Tally<A> {
+    pub fn add(&mut self, other: &Self) {
+        self.inputs += other.inputs;
+        self.calls += other.calls;
+        self.fifties += other.fifties;
+        self.samples += other.samples;
+        self.answers.add(&other.answers);
+    }
+}
+
+/// The number that stands for success: it is no refusal's.
+pub const SUCCESS: u32 = 0;
+
+/// Stands for an error that has no number, which nothing is refused by.
+const WITHOUT_NUMBER: u32 = 999;
+
+/// Document 01's number for an error of the drop-in crate.
+pub fn number_of(error: &ours::NcwError) -> u32 {
+    error.number().unwrap_or(WITHOUT_NUMBER)
+}
+
+pub fn word(number: u32) -> String {
+    match number {
+        SUCCESS => "success".to_string(),
+        _ => format!("refused {number}"),
+    }
+}
+
+pub fn add_all<K: Copy + Ord>(to: &mut BTreeMap<K, u64>, from: &BTreeMap<K, u64>) {
+    from.iter().for_each(|(key, times)| *to.entry(*key).or_default() += times);
+}

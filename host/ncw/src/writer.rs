@@ -1,0 +1,111 @@
+//! Encoding by its original name, and into lent room.
+use crate::boundary;
+use crate::error::NcwError;
+use crate::opened::SAMPLES_PER_BLOCK;
+use crate::slices::answered;
+
+/// How the two channels of a stereo file are written.
+#[derive(Clone, Copy, Debug, PartialEq, Eq)]
+pub enum StereoMode {
+    /// Each group as mid/side where that can be undone exactly and takes fewer bytes, otherwise as it is.
+    Auto,
+    /// Every group as it is.
+    Direct,
+    /// Every group as mid/side. Refused where the samples of a frame differ in parity, and where there are not two channels.
+    MidSide,
+}
+
+impl StereoMode {
+    /// The mode's number in document 01.
+    fn number(self) -> u32 {
+        match self {
+            StereoMode::Auto => 0,
+            StereoMode::Direct => 1,
+            StereoMode::MidSide => 2,
+        }
+    }
+}
+
+/// What is to be encoded: 1 or 2 channels, 16 or 24 bits.
+#[derive(Clone, Copy, Debug)]
+pub struct PcmSpec {
+    /// How many samples a frame has.
+    pub channels: u16,
+    /// The depth.
+    pub bits_per_sample: u16,
+    /// Frames in a second.
+    pub sample_rate: u32,
+}
+
+/// Encodes samples, frame by frame and each frame's in the order of channels, to a new file.
+///
+/// ```
+/// use ncw::{encode_pcm, PcmSpec, StereoMode};
+///
+/// let spec = PcmSpec { channels: 2, bits_per_sample: 16, sample_rate: 44_100 };
+/// assert_eq!(encode_pcm(&[3, 5], spec, StereoMode::MidSide).unwrap().len(), 416);
+/// let refused = encode_pcm(&[3, 4], spec, StereoMode::MidSide).unwrap_err();
+/// assert_eq!((refused.number(), refused.to_string()), (Some(35), "parity differs".to_string()));
+/// ```
+pub fn encode_pcm(samples: &[i32], spec: PcmSpec, mode: StereoMode) -> Result<Vec<u8>, NcwError> {
+    let mut file = vec![0; longest(samples.len(), spec)];
+    let length = encode_into(samples, spec, mode, &mut file)?;
+    file.truncate(length);
+    file.shrink_to_fit();
+    Ok(file)
+}
+
+/// The same into room that the caller lends: how many bytes were written, from the first on. What lies after them stays, and
+/// where it refuses nothing is changed. Too little room is refusal 50, and comes after all others.
+///
+/// ```
+/// use ncw::{encode_into, PcmSpec, StereoMode};
+///
+/// let spec = PcmSpec { channels: 2, bits_per_sample: 16, sample_rate: 44_100 };
+/// let mut room = [7; 125];
+/// assert_eq!(encode_into(&[], spec, StereoMode::Auto, &mut room).unwrap(), 124);
+/// assert_eq!(room[124], 7);
+/// assert_eq!(encode_into(&[], spec, StereoMode::Auto, &mut room[..123]).unwrap_err().number(), Some(50));
+/// ```
+pub fn encode_into(samples: &[i32], spec: PcmSpec, mode: StereoMode, file: &mut [u8]) -> Result<usize, NcwError> {
+    let PcmSpec { channels, bits_per_sample, sample_rate } = spec;
+    let samples = boundary::as_bytes(samples);
+    answered(boundary::encode(samples, channels, bits_per_sample, sample_rate, mode.number(), file), i16::default)
+}
+
+/// The most bytes that a file of so many samples has: every block raw. Settings that are refused need no room, and data of more
+/// than 32 bits are refused.
+fn longest(samples: usize, spec: PcmSpec) -> usize {
+    if !matches!((spec.channels, spec.bits_per_sample), (1 | 2, 16 | 24)) {
+        return 0;
+    }
+    let groups = samples.div_ceil(SAMPLES_PER_BLOCK * usize::from(spec.channels));
+    let group = usize::from(spec.channels) * (16 + SAMPLES_PER_BLOCK / 8 * usize::from(spec.bits_per_sample));
+    124 + 4 * groups + (groups * group).min(u32::MAX as usize)
+}
+
+#[cfg(test)]
+mod tests {
+    use super::*;
+
+    fn room(samples: usize, channels: u16, bits_per_sample: u16) -> usize {
+        longest(samples, PcmSpec { channels, bits_per_sample, sample_rate: 1 })
+    }
+
+    #[test]
+    fn room_for_the_longest_file() {
+        assert_eq!([0, 1, 512, 513].map(|n| room(n, 1, 16)), [124, 1168, 1168, 2212]);
+        assert_eq!([0, 1, 2, 1024, 1025].map(|n| room(n, 2, 24)), [124, 3232, 3232, 3232, 6340]);
+    }
+
+    #[test]
+    fn room_of_absurd_calls() {
+        let most = isize::MAX as usize / 4;
+        for (channels, depth) in
+            [0, 1, 2, 3, u16::MAX].into_iter().flat_map(|c| [0, 8, 16, 24, u16::MAX].map(|d| (c, d)))
+        {
+            let accepted = matches!((channels, depth), (1 | 2, 16 | 24));
+            assert_eq!(room(most, channels, depth) > 1 << 32, accepted, "{channels} channels, depth {depth}");
+        }
+    }
+}
