@@ -1,4 +1,4 @@
-//! A row's samples, and the file that the original makes of them. They depend on nothing but the row.
+//! A row's samples, and the file that the original makes of them or of others. They depend on nothing but the row.
 use crate::files::bits_words;
 use crate::random::Random;
 use crate::rows::{Form, Row, Width};
@@ -14,6 +14,7 @@ pub struct Input {
     pub samples: Vec<i32>,
     pub spec: PcmSpec,
     pub mode: StereoMode,
+    /// Of the samples; where they are re-encoded it is the template, of others.
     pub file: Vec<u8>,
 }
 
@@ -27,6 +28,26 @@ impl Input {
         assert!(has_form(row, &file), "every group has the row's form: {row:?}");
         Input { samples, spec, mode, file }
     }
+
+    /// The row's file as a template, with samples that are not its own: in each group the same frames, the last first. So what is coded
+    /// differs, and fits the same widths.
+    pub fn to_reencode(row: &Row) -> Self {
+        let input = Input::of(row);
+        let samples = backwards(row.form.channels().into(), &input.samples);
+        assert!(samples != input.samples, "the samples are not the template's own: {row:?}");
+        Input { samples, ..input }
+    }
+
+    /// The settings in the drop-in's type.
+    pub fn our_spec(&self) -> ours::PcmSpec {
+        let PcmSpec { channels, bits_per_sample, sample_rate } = self.spec;
+        ours::PcmSpec { channels, bits_per_sample, sample_rate }
+    }
+}
+
+fn backwards(channels: usize, samples: &[i32]) -> Vec<i32> {
+    let groups = samples.chunks(SAMPLES_PER_BLOCK * channels);
+    groups.flat_map(|group| group.chunks(channels).rev().flatten().copied()).collect()
 }
 
 fn has_widths(row: &Row, file: &[u8]) -> bool {

@@ -1,4 +1,4 @@
-//! The Rust original and ours, timed in turns on the same files or samples: bench [encode] [--short]
+//! The Rust original and ours, timed in turns on the same files or samples: bench [encode|reencode] [--short]
 mod clock;
 mod decoding;
 mod encoding;
@@ -9,7 +9,9 @@ mod input;
 #[allow(dead_code)]
 #[path = "../definitions/random.rs"]
 mod random;
+mod reencoding;
 mod rows;
+mod writing;
 
 use input::Input;
 use rows::Row;
@@ -17,6 +19,7 @@ use rows::Row;
 /// What is timed. The sides are the original, ours into lent room, ours as a drop-in, and any others.
 struct Work {
     rows: fn(usize) -> Vec<Row>,
+    input: fn(&Row) -> Input,
     /// The columns of the sides.
     sides: &'static str,
     /// Whether all sides give the same.
@@ -26,14 +29,28 @@ struct Work {
 }
 
 const DECODING: Work = Work {
-    rows: rows::to_decode,
+    rows: rows::of_files,
+    input: Input::of,
     sides: "Rust | lent | drop-in | copy",
     agree: decoding::agree,
     times: decoding::times,
 };
 
-const ENCODING: Work =
-    Work { rows: rows::to_encode, sides: "Rust | lent | drop-in", agree: encoding::agree, times: encoding::times };
+const ENCODING: Work = Work {
+    rows: rows::to_encode,
+    input: Input::of,
+    sides: "Rust | lent | drop-in",
+    agree: |input| encoding::SIDES.agree(input),
+    times: |input, turns| encoding::SIDES.times(input, turns),
+};
+
+const REENCODING: Work = Work {
+    rows: rows::of_files,
+    input: Input::to_reencode,
+    sides: "Rust | lent | drop-in",
+    agree: |input| reencoding::SIDES.agree(input),
+    times: |input, turns| reencoding::SIDES.times(input, turns),
+};
 
 const SHORT: [usize; 1] = [10];
 const ALL: [usize; 2] = [10, 600];
@@ -45,7 +62,9 @@ fn main() {
         ["--short"] => DECODING.run(&SHORT),
         ["encode"] => ENCODING.run(&ALL),
         ["encode", "--short"] | ["--short", "encode"] => ENCODING.run(&SHORT),
-        _ => stop("usage: bench [encode] [--short]"),
+        ["reencode"] => REENCODING.run(&ALL),
+        ["reencode", "--short"] | ["--short", "reencode"] => REENCODING.run(&SHORT),
+        _ => stop("usage: bench [encode|reencode] [--short]"),
     };
 }
 
@@ -63,7 +82,7 @@ impl Work {
 
     /// Prints a row's line, and gives its ratios.
     fn measure(&self, row: &Row) -> [f64; 2] {
-        let input = Input::of(row);
+        let input = (self.input)(row);
         if let Err(words) = (self.agree)(&input) {
             stop(&format!("{row:?}: {words}"));
         }

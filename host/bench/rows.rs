@@ -1,4 +1,4 @@
-//! What is decoded or encoded: how long, which form, which depth, which width.
+//! What is decoded, encoded or re-encoded: how long, which form, which depth, which width.
 use ncw::StereoMode;
 use std::fmt;
 
@@ -65,7 +65,7 @@ pub struct Row {
     pub width: Width,
 }
 
-const DECODED: [Form; 3] = [Form::Mono, Form::Stereo, Form::MidSide];
+const OF_FILES: [Form; 3] = [Form::Mono, Form::Stereo, Form::MidSide];
 const ENCODED: [Form; 6] =
     [Form::Mono, Form::Stereo, Form::MidSide, Form::AutoMidSide, Form::AutoDirect, Form::AutoOdd];
 
@@ -74,9 +74,9 @@ const WIDTHS: [(u16, [Width; 6]); 2] = [
     (24, [Width::Bits(3), Width::Bits(8), Width::Bits(14), Width::Bits(23), Width::Bits(24), Width::Mixed]),
 ];
 
-/// Every row of one length that is decoded.
-pub fn to_decode(seconds: usize) -> Vec<Row> {
-    of(&DECODED, seconds)
+/// Every row of one length that is decoded, or is a template.
+pub fn of_files(seconds: usize) -> Vec<Row> {
+    of(&OF_FILES, seconds)
 }
 
 /// Every row of one length that is encoded.

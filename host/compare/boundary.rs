@@ -1,2 +1,2 @@
-//! The three calls of the host boundary, as they are.
-pub use ours::boundary::{decode, encode, open};
+//! The four calls of the host boundary, as they are.
+pub use ours::boundary::{decode, encode, open, reencode};

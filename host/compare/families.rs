@@ -10,6 +10,14 @@ impl<I> Part<I> {
     pub fn new(count: usize, make: impl Fn(usize) -> I + Send + Sync + 'static) -> Self {
         Part { count, make: Box::new(make) }
     }
+
+    /// The same number of other inputs, each made from one of these.
+    pub fn map<J>(self, other: impl Fn(I) -> J + Send + Sync + 'static) -> Part<J>
+    where
+        I: 'static,
+    {
+        Part::new(self.count, move |k| other((self.make)(k)))
+    }
 }
 
 pub struct Family<I> {

@@ -1,7 +1,6 @@
-//! What is compared, whatever it is: files to read, or calls to encode.
+//! What is compared, whatever it is: files to read, calls to encode or calls to re-encode.
 use crate::families::Family;
 use crate::shrink::Search;
-use std::collections::BTreeMap;
 use std::fmt::UpperHex;
 use std::panic::{catch_unwind, AssertUnwindSafe};
 
@@ -25,8 +24,8 @@ pub trait Input: Clone + PartialEq + Send {
     /// As small as it becomes while the two sides differ.
     fn shrink(search: &mut Search<Self>);
 
-    /// What it is besides its bytes, if anything, and those.
-    fn shown(&self) -> (String, &[u8]);
+    /// What it is in words, and its bytes.
+    fn shown(&self) -> (String, Vec<&[u8]>);
 }
 
 /// What differs, what the Rust or document 01 says, and what ours says.
@@ -90,13 +89,20 @@ pub fn number_of(error: &ours::NcwError) -> u32 {
     error.number().unwrap_or(WITHOUT_NUMBER)
 }
 
+/// Document 01's number, and the bits word where that is 4.
+pub type Refused = (u32, i16);
+
+pub fn refused(error: ours::NcwError) -> Refused {
+    let number = number_of(&error);
+    match error {
+        ours::NcwError::UnsupportedBitDepth(bits) => (number, bits),
+        _ => (number, 0),
+    }
+}
+
 pub fn word(number: u32) -> String {
     match number {
         SUCCESS => "success".to_string(),
         _ => format!("refused {number}"),
     }
-}
-
-pub fn add_all<K: Copy + Ord>(to: &mut BTreeMap<K, u64>, from: &BTreeMap<K, u64>) {
-    from.iter().for_each(|(key, times)| *to.entry(*key).or_default() += times);
 }

@@ -103,6 +103,11 @@ pub fn rooms(length: usize, mark: usize) -> Vec<usize> {
     enough.into_iter().chain(few).collect()
 }
 
+/// Where a call is refused: none, little, and enough for whatever it could have written.
+pub fn rooms_refused(enough: usize, mark: usize) -> Vec<usize> {
+    vec![0, 8 + mark % 90, enough.min(MOST_REFUSED) + mark % 7]
+}
+
 /// A call with so much room, held to what it has to write.
 pub fn check_room<A>(
     name: &str,

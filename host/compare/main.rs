@@ -10,6 +10,7 @@ mod boundary;
 #[cfg(planted)]
 #[path = "planted/boundary.rs"]
 mod boundary;
+mod changed;
 mod crash;
 mod encoding;
 mod families;
@@ -26,16 +27,20 @@ mod lent;
 #[path = "../definitions/orders.rs"]
 mod orders;
 mod parts;
+mod picks;
 #[path = "../definitions/random.rs"]
 mod random;
 mod reading;
+mod reencoding;
 mod report;
 mod run;
 #[path = "../definitions/samples.rs"]
 mod samples;
 mod shrink;
+mod simpler;
+mod table;
+mod writing;
 
-use encoding::Call;
 use input::{Input, Tally};
 use std::process::exit;
 use std::str::FromStr;
@@ -46,21 +51,31 @@ const COUNT: usize = 2_000_000;
 const USAGE: &str = "\
 usage: compare [COUNT] [SEED] | compare --file FILE | compare --input FAMILY INDEX [SEED]
        compare encode [COUNT] [SEED] | compare encode --input FAMILY INDEX [SEED]
-       compare encode --samples FILE CHANNELS DEPTH RATE MODE";
+       compare encode --samples FILE CHANNELS DEPTH RATE MODE
+       compare reencode [COUNT] [SEED] | compare reencode --input FAMILY INDEX [SEED]
+       compare reencode --call SAMPLES TEMPLATE CHANNELS DEPTH RATE";
 
 fn main() {
     crash::watch();
     let args: Vec<String> = std::env::args().skip(1).collect();
     let same = match args.iter().map(String::as_str).collect::<Vec<_>>()[..] {
         ["--file", path] => one(&bytes_of(path)),
-        ["encode", "--samples", path, channels, depth, rate, mode] => one(&Call {
+        ["encode", "--samples", path, channels, depth, rate, mode] => one(&encoding::Call {
             samples: bytes_of(path),
             channels: number(channels),
             depth: number(depth),
             rate: number(rate),
             mode: number(mode),
         }),
-        ["encode", ref words @ ..] => asked::<Call>(words),
+        ["encode", ref words @ ..] => asked::<encoding::Call>(words),
+        ["reencode", "--call", samples, template, channels, depth, rate] => one(&reencoding::Call {
+            samples: bytes_of(samples),
+            channels: number(channels),
+            depth: number(depth),
+            rate: number(rate),
+            template: bytes_of(template),
+        }),
+        ["reencode", ref words @ ..] => asked::<reencoding::Call>(words),
         ref words => asked::<Vec<u8>>(words),
     };
     exit(if same { 0 } else { 1 });

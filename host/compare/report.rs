@@ -36,9 +36,13 @@ pub fn found<I: Input>(found: &Found<I>, seed: u64) {
     println!("again: {} --input {} {} {seed}", I::COMMAND, found.family, found.index);
     print(&found.difference);
     let (input, difference) = shrink(&found.input, &found.difference);
-    let (besides, bytes) = input.shown();
-    println!("the smallest input found has {} bytes{besides}:", bytes.len());
+    let (words, lists) = input.shown();
+    println!("the smallest input found has {words}:");
     print(&difference);
+    lists.into_iter().for_each(in_digits);
+}
+
+fn in_digits(bytes: &[u8]) {
     let digits = |byte: &u8| format!("{byte:02X}");
     println!("{}", bytes.iter().take(MOST_PRINTED).map(digits).collect::<Vec<_>>().join(" "));
     if bytes.len() > MOST_PRINTED {

@@ -1,5 +1,6 @@
 //! The search for a smaller input on which the two sides still differ.
 use crate::input::{Difference, Input, Tally};
+use std::ops::Range;
 
 /// Inputs of so many bytes together are tried at most; each counts for some bytes more than it has.
 const MOST_TRIED: usize = 1 << 26;
@@ -32,4 +33,17 @@ impl<I: Input> Search<I> {
             }
         }
     }
+}
+
+/// The bytes without some at the end.
+pub fn fewer(bytes: &[u8]) -> Vec<Vec<u8>> {
+    let n = bytes.len();
+    let less = [n, n / 2, n / 4, n / 16, 64, 8, 4, 1];
+    less.into_iter().filter(|k| 0 < *k && *k <= n).map(|k| bytes[..n - k].to_vec()).collect()
+}
+
+/// Stretches of so many bytes, long ones first.
+pub fn stretches(n: usize) -> impl Iterator<Item = Range<usize>> {
+    let lengths = [4096, 512, 64, 8, 1].into_iter();
+    lengths.flat_map(move |k| (0..n).step_by(k).map(move |at| at..n.min(at + k)))
 }

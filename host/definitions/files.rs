@@ -115,6 +115,20 @@ pub fn packed(values: &[i32], width: u32) -> Vec<u8> {
     out
 }
 
+/// A block without flags that holds the values, of which there are any, and after them others of its own: zeros if it is `quiet`.
+pub fn holding(values: &[i32], bits: i16, quiet: bool, random: &mut Random) -> Block {
+    let width = bits.unsigned_abs().into();
+    let mut list = if bits > 0 { steps(values) } else { values.to_vec() };
+    list.resize_with(512, || if quiet { 0 } else { random.signed(width) });
+    let base = if bits > 0 { values[0] } else { random.signed(32) };
+    Block { base, bits, flags: 0, padding: random.next() as u32, run: packed(&list, width) }
+}
+
+/// From each value to the next.
+pub fn steps(values: &[i32]) -> Vec<i32> {
+    values.windows(2).map(|pair| pair[1].wrapping_sub(pair[0])).collect()
+}
+
 /// The least width that holds all the values.
 pub fn width_of(values: &[i32]) -> u32 {
     let widest = |v: &i32| 33 - (if *v < 0 { !*v } else { *v }).leading_zeros();

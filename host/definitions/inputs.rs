@@ -1,7 +1,7 @@
 //! What is asked: files for opening and decoding, samples for encoding, samples and templates for re-encoding.
 use crate::asking::Question;
 use crate::faults::{Fault, IN_FILES_TO_DECODE, IN_FILES_TO_OPEN, IN_TEMPLATES};
-use crate::files::{packed, width_of, Block, File};
+use crate::files::{holding, steps, width_of, Block, File};
 use crate::orders::{Call, OF_ENCODING, OF_FIRST_BLOCK, OF_LATER_BLOCK, OF_OPENING, OF_REENCODING};
 use crate::random::{Deck, Random};
 use crate::samples::{limits, nudged, samples};
@@ -287,16 +287,12 @@ fn of_pairs(part: &[i32], one: fn(i32, i32) -> i32) -> Vec<i32> {
 
 /// A block that holds the values, at any width that can: raw or differences, with padded values of its own.
 fn template_block(values: &[i32], flags: u16, random: &mut Random) -> Block {
-    let differences: Vec<i32> = values.windows(2).map(|pair| pair[1].wrapping_sub(pair[0])).collect();
     let raw = random.once_in(2);
-    let mut list = if raw { values.to_vec() } else { differences };
-    let least = width_of(&list).max(if raw { 1 } else { 2 });
+    let least = if raw { width_of(values) } else { width_of(&steps(values)).max(2) };
     let width = if random.once_in(2) { least } else { random.between(least.into(), 32) as u32 };
     let quiet = values.len() < 512 && random.once_in(2);
-    list.resize_with(512, || if quiet { 0 } else { random.signed(width) });
     let bits = if raw { -(width as i16) } else { width as i16 };
-    let base = if raw { random.signed(32) } else { values[0] };
-    Block { base, bits, flags, padding: random.next() as u32, run: packed(&list, width) }
+    Block { flags, ..holding(values, bits, quiet, random) }
 }
 
 /// A packed run: anything, or patterns that are sensible as floats.

@@ -34,7 +34,7 @@ pub fn programs() -> [(&'static str, Vec<Encoding>); 3] {
     ]
 }
 
-fn spec(channels: u16, depth: u16) -> PcmSpec {
+pub fn spec(channels: u16, depth: u16) -> PcmSpec {
     PcmSpec { channels, bits_per_sample: depth, sample_rate: 44_100 }
 }
 
@@ -50,10 +50,19 @@ fn case_in(room: usize, name: &str, spec: PcmSpec, mode: StereoMode, samples: &[
 }
 
 fn length(spec: PcmSpec, mode: StereoMode, samples: &[i32]) -> Option<usize> {
-    match ask(&Question::Encode(spec, mode, samples.to_vec())) {
+    match answer_to(spec, mode, samples) {
         Answer::Bytes(file) => Some(file.len()),
         _ => None,
     }
+}
+
+fn answer_to(spec: PcmSpec, mode: StereoMode, samples: &[i32]) -> Answer {
+    ask(&Question::Encode(spec, mode, samples.to_vec()))
+}
+
+/// The answer of the original.
+pub fn answer(case: &Encoding) -> Answer {
+    answer_to(case.spec, case.mode, &case.samples)
 }
 
 fn in_all_modes(name: &str, spec: PcmSpec, samples: &[i32]) -> Vec<Encoding> {

@@ -1,7 +1,6 @@
 //! What the programs must print, from what the Rust answers.
 use crate::asking::{ask, Answer, Question};
 use crate::cases::Case;
-use crate::encodings::Encoding;
 
 /// The most bytes that `ncw_open` opens.
 pub const MOST: usize = 65_536;
@@ -16,17 +15,16 @@ pub fn of_spoiled() -> String {
     format!("spoiled, refused 1, changed\nspoiled, read 1 {}, changed\n", checksum(&[0x5A5A_0000]))
 }
 
-/// The line of samples that are encoded: what was written, and what reading says of it.
-pub fn of_encoding(case: &Encoding) -> String {
-    match ask(&Question::Encode(case.spec, case.mode, case.samples.clone())) {
-        Answer::Bytes(file) if case.room < file.len() => "refused 50, kept\n".to_string(),
+/// The line of samples that are encoded, or re-encoded: what was written, and what reading says of it.
+pub fn of_answer(answer: &Answer, room: usize) -> String {
+    match answer {
+        Answer::Bytes(file) if room < file.len() => "refused 50, kept\n".to_string(),
         Answer::Bytes(file) => {
-            let sum = checksum(
-                &file.chunks_exact(4).map(|four| i32::from_le_bytes(four.try_into().unwrap())).collect::<Vec<_>>(),
-            );
-            format!("wrote {} {sum}, kept, {}, {}, kept\n", file.len(), opened(&file), decoded(&file, usize::MAX))
+            let word = |four: &[u8]| i32::from_le_bytes([four[0], four[1], four[2], four[3]]);
+            let sum = checksum(&file.chunks_exact(4).map(word).collect::<Vec<_>>());
+            format!("wrote {} {sum}, kept, {}, {}, kept\n", file.len(), opened(file), decoded(file, usize::MAX))
         }
-        answer => format!("{}, kept\n", refused(&answer)),
+        answer => format!("{}, kept\n", refused(answer)),
     }
 }
 

@@ -20,12 +20,14 @@ mod orders;
 mod random;
 #[path = "../definitions/samples.rs"]
 mod samples;
+mod templates;
 
 use cases::Case;
 use encodings::Encoding;
 use std::collections::BTreeMap;
 use std::fs;
 use std::path::Path;
+use templates::Reencoding;
 
 /// A program's name, what it reads, and what it must print.
 type Recorded = (&'static str, Vec<u8>, String);
@@ -57,7 +59,8 @@ fn recorded() -> Vec<Recorded> {
     ];
     let readings = cases::programs().map(|(program, cases)| reading(program, &cases));
     let writings = encodings::programs().map(|(program, cases)| writing(program, &cases));
-    openings.into_iter().chain(readings).chain(writings).collect()
+    let rewritings = templates::programs().map(|(program, cases)| rewriting(program, &cases));
+    openings.into_iter().chain(readings).chain(writings).chain(rewritings).collect()
 }
 
 /// For each case 4 bytes for its length, 4 for its room, and the file.
@@ -70,15 +73,38 @@ fn reading(program: &'static str, cases: &[Case]) -> Recorded {
 
 /// For each case six numbers of 4 bytes (samples, room, channels, depth, rate, mode) and the samples.
 fn writing(program: &'static str, cases: &[Encoding]) -> Recorded {
-    let numbers = |case: &Encoding| {
-        let (counts, spec) = ([case.samples.len() as u32, case.room as u32], case.spec);
+    let input = |case: &Encoding| {
+        let spec = case.spec;
         let settings = [spec.channels.into(), spec.bits_per_sample.into(), spec.sample_rate, case.mode as u32];
-        [&counts[..], &settings[..]].concat().into_iter().flat_map(u32::to_le_bytes).collect::<Vec<u8>>()
+        [words(&[case.samples.len() as u32, case.room as u32]), words(&settings), bytes_of(&case.samples)].concat()
     };
-    let samples = |case: &Encoding| case.samples.iter().flat_map(|sample| sample.to_le_bytes()).collect::<Vec<u8>>();
-    let input = cases.iter().flat_map(|case| [numbers(case), samples(case)].concat()).collect();
-    let text: String = cases.iter().map(lines::of_encoding).collect();
-    (program, input, format!("{}{text}{} cases\n", lines::of_spoiled_file(), cases.len()))
+    let line = |case: &Encoding| lines::of_answer(&encodings::answer(case), case.room);
+    listed(program, cases.iter().map(|case| (input(case), line(case))))
+}
+
+/// For each case six numbers of 4 bytes (samples, template, room, channels, depth, rate), the samples and the template.
+fn rewriting(program: &'static str, cases: &[Reencoding]) -> Recorded {
+    let input = |case: &Reencoding| {
+        let (counts, spec) = ([case.samples.len(), case.template.len(), case.room].map(|n| n as u32), case.spec);
+        let settings = [spec.channels.into(), spec.bits_per_sample.into(), spec.sample_rate];
+        [words(&counts), words(&settings), bytes_of(&case.samples), case.template.clone()].concat()
+    };
+    let line = |case: &Reencoding| lines::of_answer(&templates::answer(case), case.room);
+    listed(program, cases.iter().map(|case| (input(case), line(case))))
+}
+
+fn words(numbers: &[u32]) -> Vec<u8> {
+    numbers.iter().flat_map(|number| number.to_le_bytes()).collect()
+}
+
+fn bytes_of(samples: &[i32]) -> Vec<u8> {
+    samples.iter().flat_map(|sample| sample.to_le_bytes()).collect()
+}
+
+/// A list of calls that write: what each is given, and its line.
+fn listed(program: &'static str, cases: impl Iterator<Item = (Vec<u8>, String)>) -> Recorded {
+    let (inputs, text): (Vec<_>, Vec<_>) = cases.unzip();
+    (program, inputs.concat(), format!("{}{}{} cases\n", lines::of_spoiled_file(), text.concat(), text.len()))
 }
 
 fn opening(program: &'static str, input: Vec<u8>) -> Recorded {
@@ -126,9 +152,14 @@ fn list() {
         numbered(program, &cases, |case| (case.name.clone(), lines::of_case(case), lines::decoding_refused))
     });
     let writings = encodings::programs().into_iter().flat_map(|(program, cases)| {
-        numbered(program, &cases, |case| (case.name.clone(), lines::of_encoding(case), lines::encoding_refused))
+        let line = |case: &Encoding| lines::of_answer(&encodings::answer(case), case.room);
+        numbered(program, &cases, |case| (case.name.clone(), line(case), lines::encoding_refused))
     });
-    for (place, (name, line, refused)) in readings.chain(writings) {
+    let rewritings = templates::programs().into_iter().flat_map(|(program, cases)| {
+        let line = |case: &Reencoding| lines::of_answer(&templates::answer(case), case.room);
+        numbered(program, &cases, |case| (case.name.clone(), line(case), lines::encoding_refused))
+    });
+    for (place, (name, line, refused)) in readings.chain(writings).chain(rewritings) {
         print!("{place}: {name}: {line}");
         if let Some(number) = refused(&line) {
             *refusals.entry(number).or_insert(0) += 1;

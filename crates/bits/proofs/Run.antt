@@ -16,7 +16,8 @@ use Rattle.format.specs.Packed.{codes, values}
 use Rattle.laws.proofs.Digits.{pow-mul, getD-digits}
 use Rattle.laws.proofs.Lengths.{length-values}
 use Rattle.laws.proofs.Signs.{value-pos}
-use Rattle.bits.specs.Place.{bitsAt, Room, ReadTwo}
+use Rattle.bits.specs.Place.{bitsAt, Room, Read, ReadTwo}
+use Rattle.bits.specs.declared.Next.{Next}
 use Rattle.bits.specs.declared.Pair.{Pair}
 use Rattle.bits.proofs.Steps.{value-is}
 
@@ -41,6 +42,9 @@ module _ (b : ℕ) (s : List ℕ) where
 
   pub second-value : (k p : ℕ) (r : Pair) → 1 ≤ b → b ≤ 32 → k < 512 → k % 2 ≡ 0 → p ≡ b * k → ReadTwo s p b r → toZ w32 (ofZ w32 (r .second)) ≡ getD (values b s) (k + 1) (pos 0)
   second-value k p r low high l m q e = value-at (k + 1) (p + b) (r .second) low high (omega arith) (omega (arith, q, mul-add b k 1)) (e .second)
+
+  pub last-value : (r : Next) → 1 ≤ b → b ≤ 32 → Read s (511 * b) b r → toZ w32 (ofZ w32 (r .value)) ≡ getD (values b s) 511 (pos 0)
+  last-value r low high e = value-at 511 (511 * b) (r .value) low high (omega arith) (omega arith) (e .means)
 
   -- the first k values are in place
   abbrev pub Done : List ℤ → ℕ → Type 0

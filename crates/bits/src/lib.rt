@@ -3,7 +3,8 @@ use format::Depth;
 use read_bytes::read_u64_le;
 ghost use mathlib.Core.Path.{_≡_};
 ghost use Prim.Native.Nat.{_+_, _*_, _%_, _<_, _≤_, _^_, min};
-ghost use lib.ListN.{length};
+ghost use lib.IntN.{pos};
+ghost use lib.ListN.{length, getD};
 ghost use Rattle.format.specs.Numbers.{value};
 ghost use Rattle.format.specs.Packed.{values};
 ghost use Rattle.bits.specs.Place.{Room, Window, Read, ReadTwo, two};
@@ -134,4 +135,16 @@ pub fn packed_values(run: &[u8], bits: u32) -> [i32; 512]
         k += 2;
     }
     out
+}
+
+// The last of them.
+pub fn last_value(run: &[u8], bits: u32) -> i32
+    requires { ⌜ (1 ≤ bits) × (bits ≤ 32) × (length (now run) ≡ 64 * bits) ⌝ }
+    ensures { λ r. ⌜ r ≡ getD (values bits (now (run .entry))) 511 (pos 0) ⌝ }
+{
+    let cursor = Cursor {
+        bit: 511 * bits as usize,
+    };
+    let last = cursor.next(run, bits);
+    last.value
 }

@@ -1,11 +1,10 @@
 -- The samples of a whole block, as its coding says.
-use Prim.Native.Nat.{ℕ, zero, suc, _-_, _*_, _≤_}
+use Prim.Native.Nat.{ℕ, _-_, _*_, _≤_}
 use mathlib.Core.Path.{_≡_, sym, ap, ap₂, _∙_, subst}
-use mathlib.Core.Bool.{Bool, true, false, cond}
+use mathlib.Core.Bool.{false}
 use mathlib.Core.List.{List}
 use native.Mathlib.Omega.{arith}
-use lib.IntN.{ℤ, pos, negsuc}
-use lib.Dec.{leb}
+use lib.IntN.{ℤ}
 use lib.ListN.{length, take, drop, length-drop}
 use lib.Seq.{length-take-le}
 use mir.Syntax.{w16, w32}
@@ -16,24 +15,10 @@ use Rattle.format.specs.Blocks.{codingOf, sizeOf, decoded, samplesOf}
 use Rattle.format.specs.declared.packed.Coding.{Coding}
 use Rattle.format.specs.declared.packed.Coding.the-variants.{Differences, Raw, Beyond}
 use Rattle.laws.proofs.Tests.{never}
+use Rattle.laws.proofs.Widths.{width-some}
 use Rattle.block.specs.Read.{blockHeader, Whole}
 use Rattle.block.specs.declared.BlockHeader.{BlockHeader}
 use Rattle.block.proofs.Headers.{width-most, coding-is}
-
--- a known coding has a width
-width-some : (depth : ℕ) (z : ℤ) → 1 ≤ depth → isBeyond (coding depth z) ≡ false → 1 ≤ widthOf (coding depth z)
-unfolding coding widthOf isBeyond
-width-some depth (pos zero) h e = h
-width-some depth (pos (suc n)) h e = by (leb (suc n) 32) e
-  where
-    by : (t : Bool) → isBeyond (cond t (Differences (suc n)) Beyond) ≡ false → 1 ≤ widthOf (cond t (Differences (suc n)) Beyond)
-    by true q = omega arith
-    by false q = never q
-width-some depth (negsuc n) h e = by (leb (suc n) 32) e
-  where
-    by : (t : Bool) → isBeyond (cond t (Raw (suc n)) Beyond) ≡ false → 1 ≤ widthOf (cond t (Raw (suc n)) Beyond)
-    by true q = omega arith
-    by false q = never q
 
 pub width-differences : (k : Coding) (w : ℕ) → k ≡ Differences w → widthOf k ≡ w
 unfolding widthOf

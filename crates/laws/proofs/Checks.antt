@@ -114,3 +114,9 @@ refusal-first check (suc n) r e = by (inOrder check n) refl (refusal-first check
       where
         lt-suc : (a n : ℕ) → a < n → a < suc n
         lt-suc a n l = omega arith
+
+-- checks that are the same below n
+pub order-cong : (p q : ℕ → Checked) (n : ℕ) → ((k : ℕ) → k < n → p k ≡ q k) → inOrder p n ≡ inOrder q n
+unfolding inOrder
+order-cong p q zero h = refl
+order-cong p q (suc n) h = ap₂ (λ (a b : Checked). a then b) (order-cong p q n (λ k l. h k (omega arith))) (h n (omega arith))

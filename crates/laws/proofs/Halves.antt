@@ -7,7 +7,7 @@ use native.Mathlib.Omega.{arith}
 use lib.IntN.{ℤ, pos, negsuc, negℤ, natAbs, _+ℤ_, _-ℤ_}
 use lib.Signed.{mag, quotZ}
 use lib.Pow.{pow-mono, pow-pos}
-use lib.ListN.{length, getD, replicate}
+use lib.ListN.{length, getD, replicate, take}
 use mir.Syntax.{w32}
 use mir.Val.{SFits}
 use borrow.Author.Tests.{eqb-true}
@@ -125,6 +125,14 @@ unfolding pairwise
 length-pairwise g [] ys e = refl
 length-pairwise g (x ∷ xs) [] e = absurd (none-equal _ (sym e))
 length-pairwise g (x ∷ xs) (y ∷ ys) e = ap suc (length-pairwise g xs ys (same-rest _ _ e))
+
+-- the first pairs
+pub take-pairwise : {A B : Type 0} (f : A → A → B) (n : ℕ) (xs ys : List A) → take n (pairwise f xs ys) ≡ pairwise f (take n xs) (take n ys)
+unfolding pairwise
+take-pairwise f zero xs ys = refl
+take-pairwise f (suc n) [] ys = refl
+take-pairwise f (suc n) (x ∷ xs) [] = refl
+take-pairwise {A} {B} f (suc n) (x ∷ xs) (y ∷ ys) = ap (λ (l : List B). f x y ∷ l) (take-pairwise f n xs ys)
 
 -- every frame has equal parity
 abbrev pub Even : List ℤ → List ℤ → Type 0

@@ -25,3 +25,6 @@ pub mod Lengths
 pub mod Written
 pub mod Over
 pub mod Reading
+-- a template that passes: its blocks, groups and file, and that the new ones are as long
+pub mod Templates
+pub mod TemplateFiles

@@ -6,7 +6,7 @@ use native.Mathlib.Nat.{add-zero}
 use native.Mathlib.Omega.{arith}
 use lib.ListN.{length, take, drop, set, length-append, length-drop, length-take, drop-of-length-le}
 use borrow.Rule.Slice.PartAt.{part-to-end}
-use lib.Seq.{take-at, drop-at, drop-drop, take-all, sets, sets-eq, set-comm}
+use lib.Seq.{take-at, drop-at, drop-drop, drop-append-le, take-all, take-append-le, sets, sets-eq, set-comm}
 use Rattle.format.specs.Lists.{over}
 
 module _ {A : Type 0} where
@@ -70,3 +70,32 @@ module _ {A : Type 0} where
   lend-turn a w g xs d ys ea ed ey =
       let n : length (drop a d) ≤ length d - a = omega (arith, length-drop a d) in
       rw (ey, part-to-end d a, drop-of-length-le (drop a d) n, append-nil, ← (over-more w g xs), ← ed, ← ea)
+
+  -- a run put in place of one as long, within what is written
+  sets-inside : (a x y c : List A) (i : ℕ) → length a ≡ i → length x ≡ length y → sets (a ++ (x ++ c)) i y ≡ a ++ (y ++ c)
+  sets-inside a x y c i l e =
+      let room : i + length y ≤ length (a ++ (x ++ c)) = omega (arith, length-append a (x ++ c), length-append x c) in
+      let before : length (a ++ x) ≡ i + length y = omega (arith, length-append a x) in
+      let after : drop (i + length y) (a ++ (x ++ c)) ≡ c = rw (← append-assoc a x c) (drop-at (a ++ x) c (i + length y) before) in
+      sets-eq y (a ++ (x ++ c)) i room ∙ rw (take-at a (x ++ c) i l, after, append-assoc)
+
+  pub sets-over : (a x y c s : List A) (i : ℕ) → length a ≡ i → length x ≡ length y → sets (over (a ++ (x ++ c)) s) i y ≡ over (a ++ (y ++ c)) s
+  unfolding over
+  sets-over a x y c s i l e =
+      let same : length (a ++ (x ++ c)) ≡ length (a ++ (y ++ c)) = omega (arith, length-append a (x ++ c), length-append x c, length-append a (y ++ c), length-append y c) in
+      rw (same, append-assoc a (x ++ c), append-assoc x c, append-assoc a (y ++ c), append-assoc y c) (sets-inside a x y (c ++ drop (length (a ++ (y ++ c))) s) i l e)
+
+  -- a run put within t, which lies over out
+  pub over-within : (i : ℕ) (xs t out : List A) → i + length xs ≤ length t → sets (over t out) i xs ≡ over (take i t ++ (xs ++ drop (i + length xs) t)) out
+  unfolding over
+  over-within i xs t out h =
+      let k = i + length xs in
+      let r = drop (length t) out in
+      let long : k ≤ length (t ++ r) = omega (arith, length-append t r) in
+      sets-eq xs (t ++ r) i long
+      ∙ rw (take-append-le i t r (omega arith), drop-append-le k t r h, same, append-assoc (take i t) xs (drop k t ++ r), append-assoc (take i t) (xs ++ drop k t) r, append-assoc xs (drop k t) r) refl
+    where
+      same : length (take i t ++ (xs ++ drop (i + length xs) t)) ≡ length t
+      same =
+          length-append (take i t) (xs ++ drop (i + length xs) t)
+          ∙ omega (arith, length-append xs (drop (i + length xs) t), length-take i t, length-drop (i + length xs) t)

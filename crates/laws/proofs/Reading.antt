@@ -1,6 +1,6 @@
 -- What code reads and what a loop over checks says: the laws that functions cite.
 use Prim.Native.Nat.{ℕ, zero, suc, _+_, _*_, _^_, _≤_, _<_}
-use mathlib.Core.Path.{_≡_, refl, sym, ap, _∙_}
+use mathlib.Core.Path.{_≡_, refl, sym, ap, _∙_, subst}
 use mathlib.Core.List.{List}
 use native.Mathlib.Nat.{mul-right-comm, pow-suc, zero-lt-suc}
 use native.Mathlib.Omega.{arith}
@@ -74,6 +74,18 @@ order-stops check c n r k l p q = sym (ap (λ (x : Checked). x then k) (order-re
 pub order-more : (check : ℕ → Checked) (c : ℕ) → inOrder check c ≡ Fine → check c ≡ Fine → inOrder check (c + 1) ≡ Fine
 unfolding inOrder _then_
 order-more check c p q = rw add-one (rw (p, q))
+
+-- none is made yet, the next one refuses, all are made
+pub order-none : (check : ℕ → Checked) → inOrder check 0 ≡ Fine
+unfolding inOrder
+order-none check = refl
+
+module _ (check : ℕ → Checked) (groups g n : ℕ) (all : groups ≡ n) (fine : inOrder check g ≡ Fine) where
+  pub order-ends : (r : Refusal) → g < groups → check g ≡ No r → No r ≡ inOrder check n
+  order-ends r l e = sym (order-refuses check n r (record { at = g; below = omega arith; before = fine; refuses = e }))
+
+  pub order-whole : g ≡ groups → Fine ≡ inOrder check n
+  order-whole e = sym (subst (λ (k : ℕ). inOrder check k ≡ Fine) (e ∙ all) fine)
 
 -- ---- the place of channel c's block: what is left is what lies from it on
 pub rest-none : (depth : ℕ) (bs : List ℕ) → rest depth bs 0 ≡ drop 0 bs

@@ -1,20 +1,22 @@
 -- Two channels as mid and side: they lie in the same range, and left and right come back.
-use Prim.Native.Nat.{ℕ, zero, suc, _-_, _^_, _≤_, _<_}
+use Prim.Native.Nat.{ℕ, zero, suc, _-_, _*_, _+_, _/_, _^_, _≤_, _<_}
 use mathlib.Core.Path.{_≡_, refl, sym, ap, ap₂, _∙_}
-use mathlib.Core.Bool.{true}
-use mathlib.Core.List.{List, [], _∷_}
+use mathlib.Core.Bool.{Bool, true, false, _&&_}
+use mathlib.Core.List.{List, [], _∷_, _++_}
 use native.Mathlib.Omega.{arith}
 use lib.ListN.{length, getD, take}
 use lib.Seq.{ext-getD, getD-take, length-take-le}
 use lib.IntN.{ℤ, pos}
 use lib.Pow.{pow-mono}
-use Rattle.format.specs.Lists.{pairwise}
+use Rattle.format.specs.Lists.{tab, pairwise, every}
 use Rattle.format.specs.MidSide.{left, right, leftRight}
-use Rattle.format.specs.Encoding.{mid, side, midSide, parity}
+use Rattle.format.specs.Encoding.{channel, plain, padded, split, mid, side, midSide, equalParity, parity}
 use Rattle.format.specs.declared.settings.SampleFormat.the-variants.{Pcm}
+use Rattle.laws.proofs.Tests.{never}
+use Rattle.laws.proofs.Parts.{length-tab}
 use Rattle.laws.proofs.Signs.{AllHold}
 use Rattle.laws.proofs.Wrap.{Fit}
-use Rattle.laws.proofs.Halves.{Even, length-pairwise, mid-holds, side-holds, lefts-back, rights-back, pairwise-at, even-at, side-follows}
+use Rattle.laws.proofs.Halves.{Even, length-pairwise, mid-holds, side-holds, lefts-back, rights-back, pairwise-at, even-at, even-padded, side-follows}
 use Rattle.laws.proofs.Channels.{Level}
 
 -- two channels that b bits hold
@@ -120,3 +122,34 @@ pub frame-same : (i : ℕ) (xs ys : List (List ℤ)) → Reach i xs → Reach i 
 frame-same i xs ys rx ry e zero q = left-at i xs rx ∙ ap₂ (left Pcm) (e 0 (omega arith)) (e 1 (omega arith)) ∙ sym (left-at i ys ry)
 frame-same i xs ys rx ry e (suc zero) q = right-at i xs rx ∙ ap₂ (right Pcm) (e 0 (omega arith)) (e 1 (omega arith)) ∙ sym (right-at i ys ry)
 frame-same i xs ys rx ry e (suc (suc c)) q = absurd (omega arith)
+
+-- ---- padding keeps the parity
+abbrev evenPairs : List ℤ → List ℤ → Bool
+evenPairs l r = every (λ (b : Bool). b) (pairwise equalParity l r)
+
+and-falls : (t u v : Bool) → (u ≡ false → v ≡ false) → (t && u) ≡ false → (t && v) ≡ false
+and-falls true u v f h = f h
+and-falls false u v f h = refl
+
+-- an uneven frame stays, whatever follows
+uneven : (l r a b : List ℤ) → evenPairs l r ≡ false → evenPairs (l ++ a) (r ++ b) ≡ false
+unfolding pairwise every
+uneven [] r a b e = never e
+uneven (x ∷ l) [] a b e = never e
+uneven (x ∷ l) (y ∷ r) a b e = and-falls (equalParity x y) (evenPairs l r) (evenPairs (l ++ a) (r ++ b)) (uneven l r a b) e
+
+even-same : (l r : List ℤ) → length l ≡ length r → evenPairs (padded l) (padded r) ≡ evenPairs l r
+unfolding padded
+even-same l r n = by (evenPairs l r) refl
+  where
+    by : (t : Bool) → evenPairs l r ≡ t → evenPairs (padded l) (padded r) ≡ t
+    by true e = even-padded l r n e
+    by false e = uneven l r _ _ e
+
+channel-count : (n : ℕ) (s : List ℤ) (c : ℕ) → length (channel n s c) ≡ length s / n
+unfolding channel
+channel-count n s c = length-tab (length s / n) (λ i. getD s (i * n + c) (pos 0))
+
+pub parity-split : (s : List ℤ) → parity (split 2 s) ≡ parity (plain 2 s)
+unfolding parity split plain tab
+parity-split s = even-same (channel 2 s 0) (channel 2 s 1) (channel-count 2 s 0 ∙ sym (channel-count 2 s 1))

@@ -1,22 +1,21 @@
 -- What the host is told of encoding, and finds in its bytes: 38 and 39, then what encoding answers and puts.
 use Prim.Native.Nat.{ℕ, _%_, _<_, _≤_}
-use mathlib.Core.Path.{_≡_, refl, sym, ap, _∙_}
+use mathlib.Core.Path.{_≡_, refl, ap, _∙_}
 use mathlib.Core.List.{List}
 use lib.ListN.{length}
-use borrow.Author.Tests.{lt-ltb, le-ltb, eq-eqb, ne-eqb}
+use borrow.Author.Tests.{lt-ltb, le-ltb, ne-eqb}
 use Rattle.format.specs.Refusals.{refuse, _then_}
-use Rattle.format.specs.Answers.{answered, filled}
 use Rattle.format.specs.Encoding.{fileOf, checkEncodeInto, encodeOf, encodeInto}
-use Rattle.format.specs.Boundary.{samplesFrom, isMode, modeOf, checkMode, checkBytes, result, checkHostEncode, hostEncode, hostEncodeInto}
+use Rattle.format.specs.Boundary.{samplesFrom, isMode, modeOf, checkMode, result, checkHostEncode, hostEncode, hostEncodeInto}
 use Rattle.format.specs.declared.refusals.Refusal.{Refusal}
 use Rattle.format.specs.declared.refusals.Refusal.the-variants.{UnknownMode, SampleBytes}
-use Rattle.format.specs.declared.refusals.Checked.{Checked}
 use Rattle.format.specs.declared.refusals.Checked.the-variants.{No}
 use Rattle.format.specs.declared.settings.PcmSpec.{PcmSpec}
 use Rattle.format.specs.declared.settings.StereoMode.{StereoMode}
 use Rattle.format.specs.declared.settings.StereoMode.the-variants.{Auto, Direct, MidSide}
 use Rattle.format.specs.declared.answers.Outcome.the-variants.{Wrote, Refused}
 use Rattle.format.specs.declared.answers.Answer.{Answer}
+use Rattle.ncw.proofs.Writers.{bytes-refused, bytes-fine, refusal-told, refusal-keeps}
 
 module _ (m : ℕ) where
   pub mode-auto : m ≡ 0 → Auto ≡ modeOf m
@@ -34,11 +33,11 @@ module _ (m : ℕ) where
 module _ (b : List ℕ) (p : PcmSpec) (m : ℕ) where
   told-no : (room : ℕ) (r : Refusal) (x : ℕ) → checkHostEncode b p m room ≡ No r → x ≡ result (Refused r) → x ≡ hostEncode b p m room
   unfolding hostEncode
-  told-no room r x e t = t ∙ sym (ap (λ (k : Checked). result (answered k (Wrote (length (fileOf p (modeOf m) (samplesFrom b)))) .outcome)) e)
+  told-no room r x e t = refusal-told (checkHostEncode b p m room) r e (Wrote (length (fileOf p (modeOf m) (samplesFrom b)))) x t
 
   keeps : (out : List ℕ) (r : Refusal) → checkHostEncode b p m (length out) ≡ No r → out ≡ hostEncodeInto b p m out
   unfolding hostEncodeInto
-  keeps out r e = sym (ap (λ (k : Checked). filled k (fileOf p (modeOf m) (samplesFrom b)) out) e)
+  keeps out r e = refusal-keeps (checkHostEncode b p m (length out)) r e (fileOf p (modeOf m) (samplesFrom b)) out
 
   module _ (other : 3 ≤ m) where
     mode-no : (room : ℕ) → checkHostEncode b p m room ≡ No UnknownMode
@@ -54,8 +53,8 @@ module _ (b : List ℕ) (p : PcmSpec) (m : ℕ) where
   module _ (known : m < 3) where
     module _ (part : length b % 4 ≡ 0 → ⊥) where
       bytes-no : (room : ℕ) → checkHostEncode b p m room ≡ No SampleBytes
-      unfolding checkHostEncode checkMode isMode checkBytes refuse _then_
-      bytes-no room = rw (lt-ltb m 3 known, ne-eqb (length b % 4) 0 part) refl
+      unfolding checkHostEncode checkMode isMode refuse _then_
+      bytes-no room = rw (lt-ltb m 3 known, bytes-refused b part) refl
 
       pub told-bytes : (room x : ℕ) → x ≡ result (Refused SampleBytes) → x ≡ hostEncode b p m room
       told-bytes room x t = told-no room SampleBytes x (bytes-no room) t
@@ -65,8 +64,8 @@ module _ (b : List ℕ) (p : PcmSpec) (m : ℕ) where
 
     module _ (whole : length b % 4 ≡ 0) (mode : StereoMode) (read : mode ≡ modeOf m) where
       passes : (room : ℕ) → checkHostEncode b p m room ≡ checkEncodeInto p mode (samplesFrom b) room
-      unfolding checkHostEncode checkMode isMode checkBytes refuse _then_
-      passes room = rw (lt-ltb m 3 known, eq-eqb (length b % 4) 0 whole, read) refl
+      unfolding checkHostEncode checkMode isMode refuse _then_
+      passes room = rw (lt-ltb m 3 known, bytes-fine b whole, read) refl
 
       pub told-encode : (room : ℕ) (a : Answer) (x : ℕ) → x ≡ result (a .outcome) → a ≡ encodeOf p mode (samplesFrom b) room → x ≡ hostEncode b p m room
       unfolding encodeOf hostEncode

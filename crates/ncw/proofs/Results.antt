@@ -16,6 +16,7 @@ use Rattle.format.specs.Answers.{answered}
 use Rattle.format.specs.Opening.{checkOpen, headerOf, openOf}
 use Rattle.format.specs.Decoding.{checkDecode, decodedCount, checkRoom, decodeOf}
 use Rattle.format.specs.Encoding.{fileOf, checkEncodeInto, encodeOf}
+use Rattle.format.specs.Reencoding.{checkReencodeInto, reencodeOf}
 use Rattle.format.specs.Boundary.{result}
 use Rattle.format.specs.declared.units.Frames.{Frames}
 use Rattle.format.specs.declared.units.Samples.{Samples}
@@ -74,8 +75,16 @@ decode-reads-few s room a byte e n p = reads-few (checkDecode s then checkRoom s
         let e : decodedCount s ≡ n = cc in
         omega (arith, counts-lt (fieldsOf s .frames) (fieldsOf s .channels) (number-lt 16 4 s byte) (number-lt 8 2 s byte), ap (λ (m : Samples). m .0) e)
 
+-- a writer answers what it wrote
+wrote-reads-none : (k : Checked) (w : ℕ) (a : Answer) → a ≡ answered k (Wrote w) → (n : Samples) → a .outcome ≡ Read n → 4 * n .0 < 2 ^ 64
+wrote-reads-none k w a e n q = reads-few k (Wrote w) n (λ r. let none : true ≡ false = cc in never none) (sym (ap (λ (x : Answer). x .outcome) e) ∙ q)
+
 pub encode-reads-none :
     (p : PcmSpec) (mode : StereoMode) (s : List ℤ) (room : ℕ) (a : Answer) → a ≡ encodeOf p mode s room → (n : Samples) → a .outcome ≡ Read n → 4 * n .0 < 2 ^ 64
 unfolding encodeOf
-encode-reads-none p mode s room a e n q =
-    reads-few (checkEncodeInto p mode s room) (Wrote (length (fileOf p mode s))) n (λ w. let none : true ≡ false = cc in never none) (sym (ap (λ (x : Answer). x .outcome) e) ∙ q)
+encode-reads-none p mode s room = wrote-reads-none (checkEncodeInto p mode s room) (length (fileOf p mode s))
+
+pub reencode-reads-none :
+    (p : PcmSpec) (s : List ℤ) (t : List ℕ) (room : ℕ) (a : Answer) → a ≡ reencodeOf p s t room → (n : Samples) → a .outcome ≡ Read n → 4 * n .0 < 2 ^ 64
+unfolding reencodeOf
+reencode-reads-none p s t room = wrote-reads-none (checkReencodeInto p s t room) (length t)

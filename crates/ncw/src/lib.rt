@@ -9,7 +9,7 @@ ghost use Prim.Native.Nat.{_*_, _<_, _^_};
 ghost use lib.ListN.{length};
 ghost use Rattle.format.specs.declared.units.Samples.{Samples};
 ghost use Rattle.format.specs.declared.answers.Outcome.the-variants.{Read};
-ghost use Rattle.format.specs.Boundary.{modeOf, result, hostOpen, hostDecode, hostDecodeInto, hostEncode, hostEncodeInto};
+ghost use Rattle.format.specs.Boundary.{modeOf, result, hostOpen, hostDecode, hostDecodeInto, hostEncode, hostEncodeInto, hostReencode, hostReencodeInto};
 
 // The length in bytes (for opening, what decoding would write), or 2^63 plus the refusal number.
 fn result(outcome: Outcome) -> u64
@@ -82,6 +82,31 @@ pub extern "C" fn ncw_encode(
         sample_rate: rate,
     };
     let answer = writer::encode_lent(Container::Bytes, &[], samples, p, mode_of(mode), file);
+    let outcome = answer.outcome;
+    result(outcome)
+}
+
+#[no_mangle]
+pub extern "C" fn ncw_reencode(
+    samples: &[u8],
+    channels: u16,
+    depth: u16,
+    rate: u32,
+    template: &[u8],
+    file: &mut [u8],
+) -> u64
+    ensures answers { λ r. ⌜ r ≡ hostReencode (now (samples .entry)) (record { channels = channels; «bits_per_sample» = depth; «sample_rate» = rate }) (now (template .entry)) (length (now (file .entry))) ⌝ }
+    ensures puts { λ _. ⌜ now (file .exit) ≡ hostReencodeInto (now (samples .entry)) (record { channels = channels; «bits_per_sample» = depth; «sample_rate» = rate }) (now (template .entry)) (now (file .entry)) ⌝ }
+{
+    if samples.len() % 4 != 0 {
+        return result(Outcome::Refused(Refusal::SampleBytes));
+    }
+    let p = PcmSpec {
+        channels,
+        bits_per_sample: depth,
+        sample_rate: rate,
+    };
+    let answer = template::reencode_lent(Container::Bytes, &[], samples, p, template, file);
     let outcome = answer.outcome;
     result(outcome)
 }

@@ -1,52 +1,18 @@
--- The parity of padded channels, and the blocks of a group, one after another.
-use Prim.Native.Nat.{ℕ, _+_, _-_, _*_, _/_, _^_, _≤_, _<_}
-use mathlib.Core.Path.{_≡_, refl, sym, ap, _∙_}
-use mathlib.Core.Bool.{Bool, true, false, _&&_}
-use mathlib.Core.List.{List, [], _∷_, _++_}
+-- The blocks of a group, one after another.
+use Prim.Native.Nat.{ℕ, _+_, _-_, _^_, _≤_, _<_}
+use mathlib.Core.Path.{_≡_, sym, ap, _∙_}
+use mathlib.Core.List.{List, [], _++_}
 use native.Mathlib.Omega.{arith}
 use native.Mathlib.Numerals.{add-one}
-use lib.IntN.{ℤ, pos}
+use lib.IntN.{ℤ}
 use lib.ListN.{length, getD, take, drop, length-append, length-drop}
 use mir.Syntax.{w64}
 use mir.Val.{Fits}
 use borrow.Rule.Slice.PartAt.{part-to-end}
-use Rattle.format.specs.Lists.{tab, joined, over, every, pairwise}
-use Rattle.format.specs.Encoding.{channel, plain, padded, split, blockOf, blocks, equalParity, parity}
-use Rattle.laws.proofs.Tests.{never}
+use Rattle.format.specs.Lists.{joined, over}
+use Rattle.format.specs.Encoding.{channel, padded, split, blockOf, blocks}
 use Rattle.laws.proofs.Over.{lend-turn}
 use Rattle.laws.proofs.Parts.{length-tab, getD-tab, length-mono, joined-cong, one-more}
-use Rattle.laws.proofs.Halves.{even-padded}
-
--- ---- padding keeps the parity
-abbrev evenPairs : List ℤ → List ℤ → Bool
-evenPairs l r = every (λ (b : Bool). b) (pairwise equalParity l r)
-
-and-falls : (t u v : Bool) → (u ≡ false → v ≡ false) → (t && u) ≡ false → (t && v) ≡ false
-and-falls true u v f h = f h
-and-falls false u v f h = refl
-
--- an uneven frame stays, whatever follows
-uneven : (l r a b : List ℤ) → evenPairs l r ≡ false → evenPairs (l ++ a) (r ++ b) ≡ false
-unfolding pairwise every
-uneven [] r a b e = never e
-uneven (x ∷ l) [] a b e = never e
-uneven (x ∷ l) (y ∷ r) a b e = and-falls (equalParity x y) (evenPairs l r) (evenPairs (l ++ a) (r ++ b)) (uneven l r a b) e
-
-even-same : (l r : List ℤ) → length l ≡ length r → evenPairs (padded l) (padded r) ≡ evenPairs l r
-unfolding padded
-even-same l r n = by (evenPairs l r) refl
-  where
-    by : (t : Bool) → evenPairs l r ≡ t → evenPairs (padded l) (padded r) ≡ t
-    by true e = even-padded l r n e
-    by false e = uneven l r _ _ e
-
-channel-count : (n : ℕ) (s : List ℤ) (c : ℕ) → length (channel n s c) ≡ length s / n
-unfolding channel
-channel-count n s c = length-tab (length s / n) (λ i. getD s (i * n + c) (pos 0))
-
-pub parity-split : (s : List ℤ) → parity (split 2 s) ≡ parity (plain 2 s)
-unfolding parity split plain tab
-parity-split s = even-same (channel 2 s 0) (channel 2 s 1) (channel-count 2 s 0 ∙ sym (channel-count 2 s 1))
 
 -- ---- the blocks of a group
 module _ (depth flags : ℕ) (a : List (List ℤ)) (two : length a ≡ 2) where

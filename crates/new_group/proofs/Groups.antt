@@ -25,7 +25,8 @@ use Rattle.laws.proofs.Stereo.{both-level}
 use Rattle.new_group.specs.Choice.{sizesOf, autoTakes, takesOf}
 use Rattle.new_group.specs.Writable.{Writable}
 use Rattle.new_group.specs.declared.Sizes.{Sizes}
-use Rattle.new_group.proofs.Blocks.{parity-split, pair-count}
+use Rattle.laws.proofs.Stereo.{parity-split}
+use Rattle.new_group.proofs.Blocks.{pair-count}
 
 -- ---- the lengths of two channels' blocks
 pub pair-size : (depth : ℕ) (a : List (List ℤ)) (x y : ℕ) → length a ≡ 2 → ((flags : ℕ) → x ≡ length (blockOf depth flags (getD a 0 []))) → ((flags : ℕ) → y ≡ length (blockOf depth flags (getD a 1 [])))

@@ -1,4 +1,3 @@
--- parity of padded channels, blocks one after another; a test of all pairs; what a mode takes, and that it can be written
+-- blocks one after another; what a mode takes, and that it can be written
 pub mod Blocks
-pub mod Rows
 pub mod Groups

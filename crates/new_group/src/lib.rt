@@ -1,5 +1,4 @@
 // A new group: mid/side where the mode takes it, its length, and its blocks, each written into its own part.
-use format::Depth;
 use format::PcmSpec;
 use format::StereoMode;
 use lent::Container;
@@ -10,45 +9,11 @@ ghost use Prim.Native.Nat.{ℕ, _+_, _*_, _<_, _≤_};
 ghost use lib.ListN.{length, getD};
 ghost use Rattle.format.specs.Lists.{over, every};
 ghost use Rattle.format.specs.Numbers.{holds};
-ghost use Rattle.format.specs.Encoding.{midSide, parity, plain, split, blocks, groupOf};
+ghost use Rattle.format.specs.Encoding.{split, blocks, groupOf};
 ghost use Rattle.format.specs.declared.settings.StereoMode.the-variants.{Direct};
 ghost use Rattle.lent.specs.Lent.{lentOf, framesFrom};
 ghost use Rattle.new_group.specs.Choice.{sizesOf, autoTakes, takesOf};
 ghost use Rattle.new_group.specs.Writable.{Writable};
-
-// Two channels of left and right as mid and side.
-pub fn mid_side(a: [[i32; 512]; 2]) -> [[i32; 512]; 2]
-    ensures { λ r. ⌜ r ≡ midSide a ⌝ }
-{
-    let mut m = a;
-    for i in 0..Depth::SAMPLES_PER_BLOCK {
-        let l = m[0][i];
-        let r = m[1][i];
-        m[0][i] = sample::mid(l, r);
-        m[1][i] = sample::side(l, r);
-    }
-    m
-}
-
-// Whether every frame has equal parity.
-pub fn parity(a: [[i32; 512]; 2]) -> bool
-    ensures { λ r. ⌜ r ≡ parity a ⌝ }
-{
-    let mut even = true;
-    for i in 0..Depth::SAMPLES_PER_BLOCK {
-        let e = sample::equal_parity(a[0][i], a[1][i]);
-        even = even & e;
-    }
-    even
-}
-
-// The same of the n frames from `first` on: padded frames never change it.
-pub fn frames_parity(which: Container, words: &[i32], bytes: &[u8], first: usize, n: usize) -> bool
-    requires { ⌜ (0 < n) × (n ≤ 512) × ((first + n) * 2 ≤ length (lentOf which (now words) (now bytes))) ⌝ }
-    ensures { λ r. ⌜ r ≡ parity (plain 2 (framesFrom 2 first n (lentOf which (now (words .entry)) (now (bytes .entry))))) ⌝ }
-{
-    parity(lent::split(which, words, bytes, first, n))
-}
 
 // A group's length in both forms.
 pub struct Sizes {
@@ -70,7 +35,7 @@ pub fn both_sizes(a: [[i32; 512]; 2], depth: u16) -> Sizes
 {
     Sizes {
         direct: pair_size(a, depth),
-        mid_side: pair_size(mid_side(a), depth),
+        mid_side: pair_size(stereo::mid_side(a), depth),
     }
 }
 
@@ -79,7 +44,7 @@ fn auto_takes(a: [[i32; 512]; 2], depth: u16) -> bool
     requires { ⌜ depth ≤ 32 ⌝ }
     ensures { λ r. ⌜ r ≡ autoTakes depth a ⌝ }
 {
-    if parity(a) {
+    if stereo::parity(a) {
         let s = both_sizes(a, depth);
         return s.mid_side < s.direct;
     }
@@ -135,7 +100,7 @@ pub fn group_size(
     if p.channels == 2 {
         let a = lent::split(which, words, bytes, first, n);
         if takes_mid(mode, a, p.bits_per_sample) {
-            return pair_size(mid_side(a), p.bits_per_sample);
+            return pair_size(stereo::mid_side(a), p.bits_per_sample);
         }
         return pair_size(a, p.bits_per_sample);
     }
@@ -192,7 +157,7 @@ pub fn write_group(
     if p.channels == 2 {
         let a = lent::split(which, words, bytes, first, n);
         if takes_mid(mode, a, p.bits_per_sample) {
-            return write_pair(out, mid_side(a), p.bits_per_sample, 1);
+            return write_pair(out, stereo::mid_side(a), p.bits_per_sample, 1);
         }
         return write_pair(out, a, p.bits_per_sample, 0);
     }

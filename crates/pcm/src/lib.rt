@@ -17,6 +17,7 @@ ghost use Rattle.format.specs.Units.{within, depthOf, framesIn};
 ghost use Rattle.format.specs.Refusals.{refuse};
 ghost use Rattle.format.specs.declared.refusals.Refusal.the-variants.{ValueOutside};
 ghost use Rattle.format.specs.Encoding.{checkSpec, checkEncoder, checkSamples};
+ghost use Rattle.format.specs.Reencoding.{checkReencoder};
 ghost use Rattle.lent.specs.Lent.{lentOf};
 
 // 30, of a writer that takes 1 to `most` channels; listed: whether it takes the depth.
@@ -38,8 +39,8 @@ pub fn check_spec(p: PcmSpec, most: u16, listed: bool) -> Checked
     Checked::Fine
 }
 
-// The encoder's depths.
-fn encoder_depth(bits: u16) -> bool
+// The depths that both writers take.
+fn writer_depth(bits: u16) -> bool
     ensures { λ r. ⌜ r ≡ isIn bits (16 ∷ 24 ∷ []) ⌝ }
 {
     match bits {
@@ -53,7 +54,15 @@ fn encoder_depth(bits: u16) -> bool
 pub fn check_encoder(p: PcmSpec) -> Checked
     ensures { λ r. ⌜ r ≡ checkEncoder p ⌝ }
 {
-    check_spec(p, 2, encoder_depth(p.bits_per_sample))
+    check_spec(p, 2, writer_depth(p.bits_per_sample))
+}
+
+// 30, of the re-encoder, for itself.
+pub fn check_reencoder(p: PcmSpec) -> Checked
+    ensures { λ r. ⌜ r ≡ checkReencoder p ⌝ }
+{
+    let listed = writer_depth(p.bits_per_sample);
+    check_spec(p, 2, listed)
 }
 
 fn framed(which: Container, words: &[i32], bytes: &[u8], channels: u16) -> Framed

@@ -8,6 +8,7 @@ use lib.ListN.{length, getD, take, drop}
 use lib.IntN.{ℤ}
 use lib.Dec.{leb}
 use borrow.Author.Tests.{le-ltb, lt-leb, eq-eqb}
+use Rattle.laws.proofs.TemplateFiles as F
 use Rattle.promises.proofs.Refile as R
 use Rattle.format.specs.Lists.{joined}
 use Rattle.format.specs.Numbers.{Below}
@@ -36,23 +37,23 @@ module _ (p : PcmSpec) (s : List ℤ) (t : List ℕ) (ok : checkReencode p s t �
 
   -- ---- the result as a template
   entry-kept : (k : ℕ) → k ≤ count → entry t′ h k ≡ entry t h k
-  entry-kept k l = R.entry-same p s t ok k l ∙ sym (R.entries-same p s t ok k l)
+  entry-kept k l = R.entry-same p s t ok k l ∙ sym (F.entries-same p s t ok k l)
 
   rising-again : checkRising t′ h ≡ Fine
   unfolding checkRising
   rising-again =
-      pass _ _ (ap not (eq-eqb (entry t′ h 0) 0 (entry-kept 0 (omega arith) ∙ R.entry-zero p s t ok)))
-      and-then pass _ _ (ap not (eq-eqb (entry t′ h count) (h .size) (entry-kept count (omega arith) ∙ R.entry-last p s t ok)))
+      pass _ _ (ap not (eq-eqb (entry t′ h 0) 0 (entry-kept 0 (omega arith) ∙ F.entry-zero p s t (F.template-ok p s t ok))))
+      and-then pass _ _ (ap not (eq-eqb (entry t′ h count) (h .size) (entry-kept count (omega arith) ∙ F.entry-last p s t (F.template-ok p s t ok))))
       and-then pass _ _ (none-below (λ k. leb (entry t′ h (k + 1)) (entry t′ h k)) count
-      (λ k l. lt-leb (entry t′ h (k + 1)) (entry t′ h k) (omega (arith, entry-kept k (omega arith), entry-kept (k + 1) (omega arith), R.entry-rises p s t ok k l))))
+      (λ k l. lt-leb (entry t′ h (k + 1)) (entry t′ h k) (omega (arith, entry-kept k (omega arith), entry-kept (k + 1) (omega arith), F.entry-rises p s t (F.template-ok p s t ok) k l))))
 
   template-again : checkTemplate p s t′ ≡ Fine
   unfolding checkTemplate
   template-again =
-      pass _ _ (le-ltb (length t′) 120 (omega (arith, R.same-length p s t ok, R.long-ok p s t ok)))
+      pass _ _ (le-ltb (length t′) 120 (omega (arith, F.same-length p s t ok, F.long-ok p s t (F.template-ok p s t ok))))
       and-then pass _ _ (ap not (R.signed-same p s t ok))
-      and-then (ap (checkSame p (length s / p .channels)) (R.fields-same p s t ok) ∙ R.same-ok p s t ok)
-      and-then (ap₂ checkBounds (R.fields-same p s t ok) (R.same-length p s t ok) ∙ R.bounds-ok p s t ok)
+      and-then (ap (checkSame p (length s / p .channels)) (R.fields-same p s t ok) ∙ F.same-ok p s t (F.template-ok p s t ok))
+      and-then (ap₂ checkBounds (R.fields-same p s t ok) (F.same-length p s t ok) ∙ F.bounds-ok p s t (F.template-ok p s t ok))
       and-then (ap (checkRising t′) (R.fields-same p s t ok) ∙ rising-again)
 
   group-again : (g : ℕ) → g < count → checkNewGroup (h .depth) (h .channels) (group t′ h g) (groupIn (h .channels) s g) ≡ Fine
@@ -62,7 +63,7 @@ module _ (p : PcmSpec) (s : List ℤ) (t : List ℕ) (ok : checkReencode p s t �
   pub accepted-again : checkReencode p s t′ ≡ Fine
   unfolding checkReencode
   accepted-again =
-      R.writer-ok p s t ok and-then R.samples-ok p s t ok and-then template-again
+      F.writer-ok p s t ok and-then F.samples-ok p s t ok and-then template-again
       and-then (ap (λ (x : Fields). inOrder (λ g. checkNewGroup (x .depth) (x .channels) (group t′ x g) (groupIn (x .channels) s g)) (groupsOf (x .frames))) (R.fields-same p s t ok)
       ∙ in-order (λ g. checkNewGroup (h .depth) (h .channels) (group t′ h g) (groupIn (h .channels) s g)) count group-again)
 
@@ -70,10 +71,10 @@ module _ (p : PcmSpec) (s : List ℤ) (t : List ℕ) (ok : checkReencode p s t �
   module _ (byte : Below 256 t) where
     bytes-same : Below 256 t′
     bytes-same =
-        subst (Below 256) (sym (R.file-is p s t ok))
+        subst (Below 256) (sym (F.file-is p s t ok))
         (below-append (take (h .start) t) _ (below-take t byte (h .start))
-        (below-append (joined (R.part p s t ok) count) (drop (h .start + h .size) t)
-        (below-joined (R.part p s t ok) count (λ g l. below-new-group (h .depth) (h .channels) (group t h g) (groupIn (h .channels) s g) (below-group t byte h g)))
+        (below-append (joined (F.part p s t ok) count) (drop (h .start + h .size) t)
+        (below-joined (F.part p s t ok) count (λ g l. below-new-group (h .depth) (h .channels) (group t h g) (groupIn (h .channels) s g) (below-group t byte h g)))
         (below-drop t byte (h .start + h .size))))
 
     mids-again : R.MidKept s t′ h

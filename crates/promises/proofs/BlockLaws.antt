@@ -12,7 +12,7 @@ use lib.Dec.{ltb}
 use lib.Pow.{pow-mono}
 use borrow.Author.Tests.{ltb-true, le-leb}
 use Rattle.format.specs.Lists.{from, same}
-use Rattle.format.specs.Numbers.{num, digits, le, numAt, value, codeOf, holds}
+use Rattle.format.specs.Numbers.{num, digits, le, numAt, value, codeOf}
 use Rattle.format.specs.Packed.{coding, widthOf, values, packing, rebuilt, isBeyond}
 use Rattle.format.specs.declared.packed.Coding.{Coding}
 use Rattle.format.specs.declared.packed.Coding.the-variants.{Differences, Raw}

@@ -27,8 +27,10 @@ use Rattle.laws.proofs.Checks.{pass, _and-then_}
 use Rattle.laws.proofs.Digits.{num-lt, le-num, codes-low}
 use Rattle.laws.proofs.Signs.{AllHold, code-value, value-pos, value-holds, packing-values, holds-every}
 use Rattle.laws.proofs.Wrap.{Fit, differences-rebuilt}
+use Rattle.laws.proofs.Templates.{Template}
+use Rattle.laws.proofs.Widths.{width-some, width-most}
 use Rattle.promises.proofs.BlockLaws.{fit}
-use Rattle.promises.proofs.NewBlocks.{Template, value-fits, new-raw, new-differences, width-some, width-most, rebuilt-fit, word-same, new-reads}
+use Rattle.promises.proofs.NewBlocks.{value-fits, new-raw, new-differences, rebuilt-fit, word-same, new-reads}
 use Rattle.promises.proofs.Bytes.{below-from}
 
 values-hold : (b : ℕ) (s : List ℕ) → 1 ≤ b → AllHold b (values b s)

@@ -8,10 +8,10 @@ use native.Mathlib.Omega.{arith}
 use lib.ListN.{length, getD, take, drop, length-append, length-drop, drop-of-length-le}
 use lib.Seq.{take-at, drop-at, length-take-le}
 use lib.IntN.{ℤ, pos, negsuc, _+ℤ_}
-use lib.Dec.{ltb, leb}
+use lib.Dec.{ltb}
 use mir.Syntax.{w32}
 use mir.Val.{SFits}
-use borrow.Author.Tests.{ltb-true, ltb-false, leb-true, eqb-false, not-false}
+use borrow.Author.Tests.{ltb-true, ltb-false}
 use Rattle.format.specs.Lists.{from, same}
 use Rattle.format.specs.Numbers.{num, numAt, value, codeOf, plus}
 use Rattle.format.specs.Packed.{coding, widthOf, values, packing, rebuilt, isBeyond}
@@ -19,15 +19,15 @@ use Rattle.format.specs.declared.packed.Coding.{Coding}
 use Rattle.format.specs.declared.packed.Coding.the-variants.{Differences, Raw, Beyond}
 use Rattle.format.specs.Blocks.{blockMark, isBlock, baseOf, bitsOf, codingOf, sizeOf, decoded, samplesOf}
 use Rattle.format.specs.Encoding.{differences, head0}
-use Rattle.format.specs.Reencoding.{newValues, valuesFor, baseFor, newBlock, checkNewBlock}
-use Rattle.format.specs.declared.refusals.Checked.the-variants.{Fine}
+use Rattle.format.specs.Reencoding.{newValues, valuesFor, baseFor, newBlock}
 use Rattle.laws.proofs.Lengths.{length-values, length-rebuilt}
 use Rattle.laws.proofs.Tests.{never}
 use Rattle.laws.proofs.Parts.{below-suc, from-skip, from-within, from-front, from-from, length-from}
-use Rattle.laws.proofs.Checks.{first-fine, others-fine, passed}
-use Rattle.laws.proofs.Digits.{length-le, num-le}
-use Rattle.laws.proofs.Signs.{Holds, AllHold, code-lt, value-code, values-packing, length-packing, every-holds}
+use Rattle.laws.proofs.Digits.{num-le}
+use Rattle.laws.proofs.Signs.{Holds, AllHold, code-lt, value-code, values-packing, length-packing}
 use Rattle.laws.proofs.Wrap.{Fit, difference-back, wrap-is}
+use Rattle.laws.proofs.Templates.{Template, base-4, new-length}
+use Rattle.laws.proofs.Widths.{width-some}
 use Rattle.promises.proofs.BlockLaws.{Reads, length-differences}
 
 -- ---- samples rebuilt from new differences, and then the old ones
@@ -123,58 +123,6 @@ module _ (a b w pk : List ℕ) (la : length a ≡ 4) (lb : length b ≡ 4) (lw :
       ap (drop 16) (parted ∙ sym (append-assoc a b (w ++ (pk ++ t))) ∙ sym (append-assoc (a ++ b) w (pk ++ t)))
       ∙ drop-at ((a ++ b) ++ w) (pk ++ t) 16 (length-append (a ++ b) w ∙ omega (arith, length-append a b))
 
--- ---- what a passed check of a template's block tells
-pub record Template (depth : ℕ) (r : List ℕ) (xs : List ℤ) : Type 0 where
-  pub head : 16 ≤ length r
-  pub mark : isBlock r ≡ true
-  pub bits : 2 ≤ numAt 8 2 r
-  pub flags : numAt 10 2 r < 2
-  pub within : isBeyond (codingOf depth r) ≡ false
-  pub sized : sizeOf depth r ≤ length r
-  pub fit : AllHold (widthOf (codingOf depth r)) (valuesFor depth r xs)
-
-pub template-ok : (depth : ℕ) (r : List ℕ) (xs : List ℤ) → checkNewBlock depth r xs ≡ Fine → Template depth r xs
-unfolding checkNewBlock
-template-ok depth r xs e =
-    let e2 = others-fine _ _ e in
-    let e3 = others-fine _ _ e2 in
-    let e4 = others-fine _ _ e3 in
-    let e5 = others-fine _ _ e4 in
-    let e6 = others-fine _ _ e5 in
-    let e7 = others-fine _ _ e6 in
-    let e8 = others-fine _ _ e7 in
-    let not0 = eqb-false (numAt 8 2 r) 0 (passed _ _ (first-fine _ _ e3)) in
-    let not1 = eqb-false (numAt 8 2 r) 1 (passed _ _ (first-fine _ _ e4)) in
-    let f = ltb-false 1 (numAt 10 2 r) (passed _ _ (first-fine _ _ e5)) in
-    record {
-      head = ltb-false (length r) 16 (passed _ _ (first-fine _ _ e));
-      mark = not-false _ (passed _ _ (first-fine _ _ e2));
-      bits = omega arith;
-      flags = omega arith;
-      within = passed _ _ (first-fine _ _ e6);
-      sized = ltb-false (length r) (sizeOf depth r) (passed _ _ (first-fine _ _ e7));
-      fit = every-holds (widthOf (codingOf depth r)) (valuesFor depth r xs) (not-false _ (passed _ _ e8));
-    }
-
--- a width is the depth, or from 1 to 32
-module _ (P : ℕ → Type 0) (small : (n : ℕ) → suc n ≤ 32 → P (suc n)) where
-  width-by : (n : ℕ) (c : Coding) → widthOf c ≡ suc n → (t : Bool) → leb (suc n) 32 ≡ t → isBeyond (cond t c Beyond) ≡ false → P (widthOf (cond t c Beyond))
-  unfolding isBeyond
-  width-by n c w true q e = subst P (sym w) (small n (leb-true (suc n) 32 q))
-  width-by n c w false q e = never e
-
-  width-in : (depth : ℕ) (z : ℤ) → P depth → isBeyond (coding depth z) ≡ false → P (widthOf (coding depth z))
-  unfolding coding widthOf
-  width-in depth (pos zero) d = λ e. d
-  width-in depth (pos (suc n)) d = width-by n (Differences (suc n)) refl (leb (suc n) 32) refl
-  width-in depth (negsuc n) d = width-by n (Raw (suc n)) refl (leb (suc n) 32) refl
-
-pub width-some : (depth : ℕ) (z : ℤ) → 1 ≤ depth → isBeyond (coding depth z) ≡ false → 1 ≤ widthOf (coding depth z)
-width-some = width-in (λ w. 1 ≤ w) (λ n u. omega arith)
-
-pub width-most : (depth : ℕ) (z : ℤ) → depth ≤ 32 → isBeyond (coding depth z) ≡ false → widthOf (coding depth z) ≤ 32
-width-most = width-in (λ w. w ≤ 32) (λ n u. u)
-
 -- the samples that the new block has
 abbrev pub newSamples : ℕ → List ℕ → List ℤ → List ℤ
 newSamples depth r xs = xs ++ drop (length xs) (samplesOf depth r)
@@ -186,12 +134,6 @@ value-fits n = by (ltb n 2147483648) refl
     by : (t : Bool) → ltb n 2147483648 ≡ t → SFits w32 (cond t (pos n) (negsuc (4294967296 - suc n)))
     by true e = record { sfits = omega (arith, ltb-true n 2147483648 e) }
     by false e = record { sfits = omega (arith, ltb-false n 2147483648 e) }
-
-base-4 : (k : Coding) (r : List ℕ) (xs : List ℤ) → 16 ≤ length r → length (baseFor k r xs) ≡ 4
-unfolding baseFor
-base-4 (Differences b) r xs h = length-le 4 (codeOf 32 (head0 xs))
-base-4 (Raw b) r xs h = length-from 4 4 r (omega arith)
-base-4 Beyond r xs h = length-from 4 4 r (omega arith)
 
 pub new-raw : (b : ℕ) (old : List ℤ) (run : List ℕ) (xs : List ℤ) → newValues (Raw b) old run xs ≡ xs ++ drop (length xs) (values b (take (64 * b) run))
 unfolding newValues
@@ -263,12 +205,8 @@ module _ (depth : ℕ) (low : 1 ≤ depth) (r : List ℕ) (xs : List ℤ) (some 
   unfolding codingOf
   wide = width-some depth (bitsOf r) low (ok .within)
 
-  -- is as long as it was
-  pub new-length : length (newBlock depth r xs) ≡ sizeOf depth r
-  unfolding newBlock sizeOf
-  new-length =
-      length-append (take 4 r) (base ++ (from 8 8 r ++ pk))
-      ∙ omega (arith, la, lb, lw, length-append base (from 8 8 r ++ pk), length-append (from 8 8 r) pk, length-packing (widthOf c) (valuesFor depth r xs))
+  long-is : length (newBlock depth r xs) ≡ sizeOf depth r
+  long-is = new-length depth r xs (ok .head)
 
   -- bytes 8 to 15 stay
   pub word-same : (t : List ℕ) (k n : ℕ) → k + n ≤ 8 → from (4 + (4 + k)) n (newBlock depth r xs ++ t) ≡ from (8 + k) n r
@@ -296,8 +234,8 @@ module _ (depth : ℕ) (low : 1 ≤ depth) (r : List ℕ) (xs : List ℤ) (some 
   unfolding samplesOf sizeOf isBlock numAt valuesFor baseOf
   new-reads =
       record {
-        long = omega (arith, new-length, wide);
-        size = λ t. ap (λ (k : Coding). 16 + 64 * widthOf k) (coding-same t) ∙ sym new-length;
+        long = omega (arith, long-is, wide);
+        size = λ t. ap (λ (k : Coding). 16 + 64 * widthOf k) (coding-same t) ∙ sym long-is;
         mark = λ t. ap (λ (l : List ℕ). same l blockMark) (mark-same t) ∙ ok .mark;
         flags-word = λ t. ap (num 256) (word-same t 2 2 (omega arith));
         within = λ t. ap isBeyond (coding-same t) ∙ ok .within;

@@ -4,11 +4,11 @@ use mathlib.Core.Path.{_≡_, refl, sym, ap, ap₂, _∙_, subst}
 use mathlib.Core.Bool.{Bool, true, false, cond, not, _&&_}
 use mathlib.Core.List.{List, [], _∷_, _++_, append-nil, append-assoc}
 use native.Mathlib.Omega.{arith}
-use lib.ListN.{length, getD, take, drop, length-append, length-drop, take-append-drop, List·getD-append}
+use lib.ListN.{length, getD, take, drop, length-append, take-append-drop, List·getD-append}
 use lib.Seq.{ext-getD, getD-take, length-take-le, take-append-le, take-at, drop-length}
 use lib.IntN.{ℤ, pos}
 use lib.Dec.{eqb, eqb·suc-zero}
-use borrow.Author.Tests.{eqb-true, le-ltb, not-false}
+use borrow.Author.Tests.{le-ltb}
 use Rattle.format.specs.Lists.{tab, joined, same}
 use Rattle.format.specs.Numbers.{num, numAt, Below}
 use Rattle.format.specs.Blocks.{blockMark, isBlock, midBit, floatBit, sizeOf, samplesOf, rest}
@@ -19,9 +19,11 @@ use Rattle.format.specs.Reencoding.{newBlock, checkNewBlock, activeIn, checkNew
 use Rattle.format.specs.declared.refusals.Checked.the-variants.{Fine}
 use Rattle.format.specs.declared.settings.SampleFormat.the-variants.{Pcm}
 use Rattle.format.specs.declared.answers.Fields.{Fields}
+use Rattle.laws.proofs.Templates as T
+use Rattle.laws.proofs.Templates.{Template}
 use Rattle.laws.proofs.Lengths.{samples-512}
 use Rattle.laws.proofs.Parts.{length-tab, getD-tab, from-within}
-use Rattle.laws.proofs.Checks.{pass, _and-then_, in-order, first-fine, others-fine, passed, order-fine}
+use Rattle.laws.proofs.Checks.{pass, _and-then_, in-order}
 use Rattle.laws.proofs.Signs.{AllHold}
 use Rattle.laws.proofs.Wrap.{Fit}
 use Rattle.promises.proofs.BlockLaws.{Reads, fit}
@@ -29,7 +31,7 @@ use Rattle.laws.proofs.Channels.{Level, plain-at, plain-level, woven-back, wove
 use Rattle.laws.proofs.Stereo.{both-level, both-back, sides-follow, two-channels, left-at, frame-same}
 use Rattle.promises.proofs.GroupLaws.{not-float, front, rest-is, coded-is, group-fine, first-flags, first-mark, first-pcm, group-long}
 use Rattle.promises.proofs.GroupCoding.{Group}
-use Rattle.promises.proofs.NewBlocks.{Template, template-ok, newSamples, new-length, new-reads}
+use Rattle.promises.proofs.NewBlocks.{newSamples, new-reads}
 use Rattle.promises.proofs.Bytes.{below-rest}
 use Rattle.promises.proofs.Kept.{block-kept, samples-fit, again-block}
 
@@ -59,38 +61,27 @@ module _ {h : Fields} {g : ℕ} {bs : List ℕ} {s : List ℤ} (ok : Accepted h 
   chans = activeIn n bs s
 
   -- ---- what passed
-  stereo-ok : (midBit bs && not (eqb n 2)) ≡ false
-  unfolding checkNewGroup
-  stereo-ok = passed _ _ (first-fine _ _ (others-fine _ _ (ok .fine)))
+  abbrev stereo-ok : (midBit bs && not (eqb n 2)) ≡ false
+  stereo-ok = T.stereo-ok (h .depth) n bs s (ok .fine)
 
-  parity-ok : (midBit bs && not (parity (plain n s))) ≡ false
-  unfolding checkNewGroup
-  parity-ok = passed _ _ (first-fine _ _ (others-fine _ _ (others-fine _ _ (ok .fine))))
+  abbrev parity-ok : (midBit bs && not (parity (plain n s))) ≡ false
+  parity-ok = T.parity-ok (h .depth) n bs s (ok .fine)
 
-  two-ok : midBit bs ≡ true → n ≡ 2
-  two-ok m = eqb-true n 2 (not-false _ (subst (λ (b : Bool). (b && not (eqb n 2)) ≡ false) m stereo-ok))
+  abbrev two-ok : midBit bs ≡ true → n ≡ 2
+  two-ok = T.two-ok (h .depth) n bs s (ok .fine)
 
-  even-ok : midBit bs ≡ true → parity (plain n s) ≡ true
-  even-ok m = not-false _ (subst (λ (b : Bool). (b && not (parity (plain n s))) ≡ false) m parity-ok)
+  abbrev blocks-ok : (c : ℕ) → c < n → Template (h .depth) (r c) (getD chans c [])
+  blocks-ok = T.blocks-ok (h .depth) n bs s (ok .fine)
 
-  pub blocks-ok : (c : ℕ) → c < n → Template (h .depth) (r c) (getD chans c [])
-  unfolding checkNewGroup
-  blocks-ok c q =
-      template-ok (h .depth) (r c) (getD chans c [])
-      (order-fine (λ c. checkNewBlock (h .depth) (r c) (getD chans c [])) c n q (first-fine _ _ (others-fine _ _ (others-fine _ _ (others-fine _ _ (ok .fine))))))
-
-  none-left : length (r n) ≡ 0
-  unfolding checkNewGroup
-  none-left = eqb-true (length (r n)) 0 (not-false _ (passed _ _ (others-fine _ _ (others-fine _ _ (others-fine _ _ (others-fine _ _ (ok .fine)))))))
+  abbrev none-left : length (r n) ≡ 0
+  none-left = T.none-left (h .depth) n bs s (ok .fine)
 
   -- ---- the active samples
-  chans-plain : midBit bs ≡ false → chans ≡ plain n s
-  unfolding activeIn
-  chans-plain = ap (λ (t : Bool). cond t (midSide (plain n s)) (plain n s))
+  abbrev chans-plain : midBit bs ≡ false → chans ≡ plain n s
+  chans-plain = T.chans-plain (h .depth) n bs s (ok .fine)
 
-  chans-both : midBit bs ≡ true → chans ≡ midSide (plain n s)
-  unfolding activeIn
-  chans-both = ap (λ (t : Bool). cond t (midSide (plain n s)) (plain n s))
+  abbrev chans-both : midBit bs ≡ true → chans ≡ midSide (plain n s)
+  chans-both = T.chans-both (h .depth) n bs s (ok .fine)
 
   plains : Level (h .depth) n k (plain n s)
   plains = plain-level n k (ok .some) s (ok .long) (h .depth) (ok .hold)
@@ -124,23 +115,6 @@ module _ {h : Fields} {g : ℕ} {bs : List ℕ} {s : List ℤ} (ok : Accepted h 
   reads : (c : ℕ) → c < n → Reads (h .depth) (flags c) (X c) (B c)
   reads c q = new-reads (h .depth) (ok .low) (r c) (getD chans c []) (chan-some c q) (chan-few c q) (chan-fit c q) (blocks-ok c q)
 
-  block-long : (c : ℕ) → c < n → length (B c) ≡ sizeOf (h .depth) (r c)
-  block-long c q = new-length (h .depth) (ok .low) (r c) (getD chans c []) (chan-some c q) (chan-few c q) (chan-fit c q) (blocks-ok c q)
-
-  -- ---- the group is as long as the template's
-  length-so-far : (c : ℕ) → c ≤ n → length (joined B c) + length (r c) ≡ length bs
-  unfolding joined rest
-  length-so-far zero q = omega arith
-  length-so-far (suc c) q =
-      let i = length-so-far c (omega arith) in
-      let f = block-long c q in
-      let z = blocks-ok c q .sized in
-      omega (arith, length-append (joined B c) (B c), length-drop (sizeOf (h .depth) (r c)) (r c))
-
-  pub new-group-length : length (newGroup (h .depth) n bs s) ≡ length bs
-  unfolding newGroup
-  new-group-length = omega (arith, length-so-far n (omega arith), none-left)
-
   -- ---- it decodes to the samples
   flags-mid : midBit (joined B n) ≡ midBit bs
   unfolding midBit rest
@@ -165,7 +139,7 @@ module _ {h : Fields} {g : ℕ} {bs : List ℕ} {s : List ℤ} (ok : Accepted h 
       (λ c i q p.
       frame-same i (tab n X) chans (λ d u. new-long d i (omega arith) p) (λ d u. omega (arith, level .long d (omega arith))) (λ d u. new-at d i (omega arith) p) c (omega arith)
       ∙ ap (λ (x : List (List ℤ)). getD (getD (leftRight Pcm x) c []) i (pos 0)) (chans-both m)
-      ∙ ap (λ (x : List (List ℤ)). getD (getD x c []) i (pos 0)) (both-back (h .depth) n k (ok .high) two (plain n s) plains (even-ok m))
+      ∙ ap (λ (x : List (List ℤ)). getD (getD x c []) i (pos 0)) (both-back (h .depth) n k (ok .high) two (plain n s) plains (T.even-ok (h .depth) n bs s (ok .fine) m))
       ∙ plain-at n k (ok .some) s (ok .long) c i q p)
 
   mid-bit : flags 0 ≡ 1 → midBit bs ≡ true
@@ -218,7 +192,7 @@ module _ {h : Fields} {g : ℕ} {bs : List ℕ} {s : List ℤ} (ok : Accepted h 
         samples = refl;
         mark = λ t. ap (λ (x : List ℕ). same x blockMark) (take-append-le 4 bs t (omega (arith, template-long))) ∙ blocks-ok 0 (ok .some) .mark;
         pcm = λ t. ap (λ (x : List ℕ). eqb (num 256 x / 2 % 2) 1) (from-within 10 2 bs t (omega (arith, template-long))) ∙ not-float (numAt 10 2 bs) (blocks-ok 0 (ok .some) .flags);
-        long = subst (λ (x : ℕ). 80 * n ≤ x) new-group-length (new-group .long);
+        long = subst (λ (x : ℕ). 80 * n ≤ x) (T.new-group-length (h .depth) n bs s (ok .fine)) (new-group .long);
       }
 
   -- ---- the new group as a template
@@ -290,7 +264,7 @@ module _ {h : Fields} {g : ℕ} {bs : List ℕ} {s : List ℤ} (ok : Accepted h 
         let two = two-ok m in
         let e = samples-512 (h .depth) (r 1) (blocks-ok 1 (omega arith) .within) in
         ap (λ (cs : List (List ℤ)). getD cs 1 []) (chans-both m)
-        ∙ sides-follow (h .depth) n k (ok .high) two (plain n s) plains (even-ok m) (S 0) (S 1) (omega (arith, active-low (h .frames) g))
+        ∙ sides-follow (h .depth) n k (ok .high) two (plain n s) plains (T.even-ok (h .depth) n bs s (ok .fine) m) (S 0) (S 1) (omega (arith, active-low (h .frames) g))
         (samples-fit (h .depth) (r 1) (ok .low) (ok .high) (blocks-ok 1 (omega arith) .within))
         (ap (λ (cs : List (List ℤ)). getD cs 0 []) (sym (chans-both m)) ∙ kept m)
         (λ i p. sym (own-at 0 i (omega arith) p ∙ ap (λ (cs : List (List ℤ)). getD (getD cs 0 []) i (pos 0)) (read-both m) ∙ left-at i (tab n S) (λ d u. S-long d i (omega arith) p)

@@ -1,17 +1,15 @@
 -- Re-encoding, then decoding, gives the samples back; re-encoding what the template decodes to gives the template.
-use Prim.Native.Nat.{ℕ, zero, suc, _+_, _-_, _*_, _/_, _≤_, _<_, min}
+use Prim.Native.Nat.{ℕ, zero, suc, _+_, _-_, _*_, _≤_, _<_, min}
 use mathlib.Core.Path.{_≡_, refl, sym, ap, ap₂, _∙_, subst}
 use mathlib.Core.Bool.{true, not, _||_}
 use mathlib.Core.List.{List, [], _++_, append-nil}
-use mathlib.Core.Logic.{⊎-elim}
 use native.Mathlib.Omega.{arith}
 use native.Mathlib.Numerals.{add-one}
 use native.Mathlib.Decide.{decLe}
-use lib.ListN.{length, getD, take, drop, length-append, length-drop, take-append-drop}
+use lib.ListN.{length, getD, take, drop, take-append-drop}
 use lib.Seq.{drop-at, drop-drop, take-all, length-take-le}
 use lib.IntN.{ℤ}
-use lib.Dec.{leb}
-use borrow.Author.Tests.{ltb-false, leb-false, eqb-true, le-ltb, eq-eqb, not-false}
+use borrow.Author.Tests.{le-ltb, eq-eqb}
 use Rattle.format.specs.Lists.{joined, from, same}
 use Rattle.format.specs.Numbers.{num, numAt, Below}
 use Rattle.format.specs.Header.{signature, isSignature, fieldsOf, groupsOf, entry, group}
@@ -19,21 +17,22 @@ use Rattle.format.specs.Blocks.{midBit, samplesOf, rest}
 use Rattle.format.specs.Units.{isDepth}
 use Rattle.format.specs.Opening.{checkOffsets}
 use Rattle.format.specs.Decoding.{active, groupSamples, checkDecode, decodedOf}
-use Rattle.format.specs.Encoding.{groupIn, checkSamples}
-use Rattle.format.specs.Reencoding.{activeIn, checkNewGroup, newGroup, checkSame, checkBounds, checkRising, checkTemplate, checkReencoder, checkReencode, refileOf}
+use Rattle.format.specs.Encoding.{groupIn}
+use Rattle.format.specs.Reencoding.{activeIn, checkTemplate, checkReencode, refileOf}
 use Rattle.format.specs.declared.refusals.Checked.the-variants.{Fine}
 use Rattle.format.specs.declared.settings.PcmSpec.{PcmSpec}
 use Rattle.format.specs.declared.settings.SampleFormat.the-variants.{Pcm}
 use Rattle.format.specs.declared.answers.Fields.{Fields}
-use Rattle.laws.proofs.Parts.{below-suc, from-within, from-from, length-from, part-at, joined-cong, meet}
-use Rattle.laws.proofs.Checks.{pass, _and-then_, first-fine, others-fine, passed, order-fine, found-below}
+use Rattle.laws.proofs.Parts.{from-within, from-from, length-from, part-at, joined-cong, meet}
+use Rattle.laws.proofs.Checks.{pass, _and-then_}
 use Rattle.laws.proofs.Lengths.{group-writes, active-sum}
 use Rattle.laws.proofs.Channels.{group-starts, group-length, group-holds, groups-joined}
 use Rattle.promises.proofs.GroupCoding.{Group}
 use Rattle.promises.proofs.Laid.{Layout, between, decode-fine, decode-gives}
-use Rattle.laws.proofs.SampleChecks.{reencoder-ok, frames-ok, values-ok}
+use Rattle.laws.proofs.SampleChecks.{Valid, reencoder-ok, values-ok}
+use Rattle.laws.proofs.TemplateFiles as F
 use Rattle.promises.proofs.Bytes.{below-group}
-use Rattle.promises.proofs.NewGroups.{Accepted, new-group, new-group-length, template-group, group-kept}
+use Rattle.promises.proofs.NewGroups.{Accepted, new-group, template-group, group-kept}
 
 from-none : (i : ℕ) (s : List ℕ) → from i 0 s ≡ []
 unfolding from
@@ -46,15 +45,6 @@ take-own m l q e =
       | yes h ↦ ap (λ (x : ℕ). take x l) (sym (length-take-le m l h) ∙ e)
       | no h ↦ let a : length l ≤ m = omega arith in let b : take m l ≡ l = take-all m l a in b ∙ sym (take-all q l (omega (arith, ap length b)))
     ]
-
--- what rises is below its end
-rising : (f : ℕ → ℕ) (n : ℕ) → ((k : ℕ) → k < n → f k < f (k + 1)) → (k : ℕ) → k ≤ n → f k ≤ f n
-rising f zero h k l = let e : k ≡ 0 = omega arith in rw e (omega arith)
-rising f (suc n) h k l =
-    ⊎-elim
-    (λ (e : k ≡ suc n). rw e (omega arith))
-    (λ (q : k < suc n). let i = rising f n (λ j p. h j (omega arith)) k (omega arith) in let s = rw add-one at (h n (omega arith)) in omega arith)
-    (below-suc k (suc n) (omega arith))
 
 -- where a group of the template t is mid and side, its mids are those of the samples s: sums wrap, so that others may be read as the same samples
 abbrev pub MidKept : List ℤ → List ℕ → Fields → Type 0
@@ -70,170 +60,62 @@ module _ (p : PcmSpec) (s : List ℤ) (t : List ℕ) (ok : checkReencode p s t �
   abbrev pub count : ℕ
   count = groupsOf (h .frames)
 
-  -- ---- what passed
-  pub writer-ok : checkReencoder p ≡ Fine
-  unfolding checkReencode
-  writer-ok = first-fine _ _ ok
-
-  pub samples-ok : checkSamples p s ≡ Fine
-  unfolding checkReencode
-  samples-ok = first-fine _ _ (others-fine _ _ ok)
-
-  template-ok : checkTemplate p s t ≡ Fine
-  unfolding checkReencode
-  template-ok = first-fine _ _ (others-fine _ _ (others-fine _ _ ok))
-
-  pub groups-ok : (g : ℕ) → g < count → checkNewGroup (h .depth) (h .channels) (group t h g) (groupIn (h .channels) s g) ≡ Fine
-  unfolding checkReencode
-  groups-ok g l =
-      order-fine (λ g. checkNewGroup (h .depth) (h .channels) (group t h g) (groupIn (h .channels) s g)) g count l
-      (others-fine _ _ (others-fine _ _ (others-fine _ _ ok)))
-
-  pub long-ok : 120 ≤ length t
-  unfolding checkTemplate
-  long-ok = ltb-false (length t) 120 (passed _ _ (first-fine _ _ template-ok))
-
-  signed-ok : isSignature t ≡ true
-  unfolding checkTemplate
-  signed-ok = not-false _ (passed _ _ (first-fine _ _ (others-fine _ _ template-ok)))
-
-  pub same-ok : checkSame p (length s / p .channels) h ≡ Fine
-  unfolding checkTemplate
-  same-ok = first-fine _ _ (others-fine _ _ (others-fine _ _ template-ok))
-
-  pub bounds-ok : checkBounds h (length t) ≡ Fine
-  unfolding checkTemplate
-  bounds-ok = first-fine _ _ (others-fine _ _ (others-fine _ _ (others-fine _ _ template-ok)))
-
-  rising-ok : checkRising t h ≡ Fine
-  unfolding checkTemplate
-  rising-ok = others-fine _ _ (others-fine _ _ (others-fine _ _ (others-fine _ _ template-ok)))
-
-  channels-are : h .channels ≡ p .channels
-  unfolding checkSame
-  channels-are = eqb-true (h .channels) (p .channels) (not-false _ (passed _ _ (first-fine _ _ same-ok)))
-
-  bits-are : h .depth ≡ p .«bits_per_sample»
-  unfolding checkSame
-  bits-are = eqb-true (h .depth) (p .«bits_per_sample») (not-false _ (passed _ _ (first-fine _ _ (others-fine _ _ same-ok))))
-
-  rate-is : h .rate ≡ p .«sample_rate»
-  unfolding checkSame
-  rate-is = eqb-true (h .rate) (p .«sample_rate») (not-false _ (passed _ _ (first-fine _ _ (others-fine _ _ (others-fine _ _ same-ok)))))
-
-  frames-are : h .frames ≡ length s / p .channels
-  unfolding checkSame
-  frames-are = eqb-true (h .frames) (length s / p .channels) (not-false _ (passed _ _ (others-fine _ _ (others-fine _ _ (others-fine _ _ same-ok)))))
-
-  table-ok : 120 ≤ h .table
-  unfolding checkBounds
-  table-ok = ltb-false (h .table) 120 (passed _ _ (first-fine _ _ bounds-ok))
-
-  start-ok : h .table ≤ h .start
-  unfolding checkBounds
-  start-ok = ltb-false (h .start) (h .table) (passed _ _ (first-fine _ _ (others-fine _ _ bounds-ok)))
-
-  room-ok : h .start - h .table ≡ 4 * (count + 1)
-  unfolding checkBounds
-  room-ok = eqb-true (h .start - h .table) (4 * (count + 1)) (not-false _ (passed _ _ (first-fine _ _ (others-fine _ _ (others-fine _ _ bounds-ok)))))
-
-  end-ok : h .start + h .size ≤ length t
-  unfolding checkBounds
-  end-ok = ltb-false (length t) (h .start + h .size) (passed _ _ (others-fine _ _ (others-fine _ _ (others-fine _ _ bounds-ok))))
-
-  pub entry-zero : entry t h 0 ≡ 0
-  unfolding checkRising
-  entry-zero = eqb-true (entry t h 0) 0 (not-false _ (passed _ _ (first-fine _ _ rising-ok)))
-
-  pub entry-last : entry t h count ≡ h .size
-  unfolding checkRising
-  entry-last = eqb-true (entry t h count) (h .size) (not-false _ (passed _ _ (first-fine _ _ (others-fine _ _ rising-ok))))
-
-  pub entry-rises : (k : ℕ) → k < count → entry t h k < entry t h (k + 1)
-  unfolding checkRising
-  entry-rises k l = leb-false (entry t h (k + 1)) (entry t h k) (found-below (λ k. leb (entry t h (k + 1)) (entry t h k)) k count l (passed _ _ (others-fine _ _ (others-fine _ _ rising-ok))))
+  template : checkTemplate p s t ≡ Fine
+  template = F.template-ok p s t ok
 
   -- ---- each new group
-  abbrev pub part : ℕ → List ℕ
-  part g = newGroup (h .depth) (h .channels) (group t h g) (groupIn (h .channels) s g)
+  abbrev part : ℕ → List ℕ
+  part = F.part p s t ok
 
-  -- s is whole frames, as many as the template has
-  pub all-frames : length s ≡ h .channels * h .frames
-  all-frames = rw (channels-are, frames-are) (frames-ok p s samples-ok)
+  all-frames : length s ≡ h .channels * h .frames
+  all-frames = F.all-frames p s t template (F.samples-ok p s t ok)
+
+  writer : Valid 2 p
+  writer = reencoder-ok p (F.writer-ok p s t ok)
 
   pub some : 1 ≤ h .channels
-  some = rw channels-are (reencoder-ok p writer-ok .some)
+  some = rw (F.channels-are p s t template) (writer .some)
 
   depth : isDepth (h .depth) ≡ true
-  depth = rw bits-are (reencoder-ok p writer-ok .depth)
+  depth = rw (F.bits-are p s t template) (writer .depth)
 
   rate : 1 ≤ h .rate
-  rate = rw rate-is (reencoder-ok p writer-ok .rate)
-
-  pub some-active : (g : ℕ) → g < count → 1 ≤ active (h .frames) g
-  unfolding active groupsOf
-  some-active g l = omega arith
+  rate = rw (F.rate-is p s t template) (writer .rate)
 
   pub accepted : (g : ℕ) → g < count → Accepted h g (group t h g) (groupIn (h .channels) s g)
   accepted g l =
       record {
         some = some;
-        low = rw bits-are (reencoder-ok p writer-ok .low);
-        high = rw bits-are (reencoder-ok p writer-ok .high);
-        begun = some-active g l;
+        low = rw (F.bits-are p s t template) (writer .low);
+        high = rw (F.bits-are p s t template) (writer .high);
+        begun = F.some-active (h .frames) g l;
         long = group-length (h .channels) (h .frames) s all-frames g;
-        hold = group-holds (h .depth) (h .channels) s g (λ i. rw bits-are (values-ok p s samples-ok (reencoder-ok p writer-ok .depth) i));
-        fine = groups-ok g l;
+        hold = group-holds (h .depth) (h .channels) s g (λ i. rw (F.bits-are p s t template) (values-ok p s (F.samples-ok p s t ok) (writer .depth) i));
+        fine = F.groups-ok p s t ok g l;
       }
 
   parts-ok : (g : ℕ) → g < count → Group h g (groupIn (h .channels) s g) (part g)
   parts-ok g l = new-group (accepted g l)
 
-  old-length : (g : ℕ) → g < count → length (group t h g) ≡ entry t h (g + 1) - entry t h g
-  unfolding group
-  old-length g l =
-      let m : entry t h (g + 1) ≤ entry t h count = rising (entry t h) count entry-rises (g + 1) (omega arith) in
-      length-from (h .start + entry t h g) (entry t h (g + 1) - entry t h g) t (omega (arith, entry-last, entry-rises g l, end-ok))
-
-  part-length : (g : ℕ) → g < count → length (part g) ≡ entry t h (g + 1) - entry t h g
-  part-length g l = new-group-length (accepted g l) ∙ old-length g l
-
-  -- the table's entries are where the new groups begin
-  pub entries-same : (k : ℕ) → k ≤ count → entry t h k ≡ length (joined part k)
-  unfolding joined
-  entries-same zero l = entry-zero
-  entries-same (suc k) l =
-      let i = entries-same k (omega arith) in
-      let r = rw add-one at (entry-rises k l) in
-      let e = rw add-one at (part-length k l) in
-      omega (arith, length-append (joined part k) (part k))
-
   -- ---- the file
-  abbrev pub front : List ℕ
-  front = take (h .start) t
+  abbrev front : List ℕ
+  front = F.front p s t ok
 
-  abbrev pub back : List ℕ
-  back = drop (h .start + h .size) t
-
-  pub front-length : length front ≡ h .start
-  front-length = length-take-le (h .start) t (omega (arith, end-ok))
-
-  pub file-is : refileOf s t ≡ front ++ (joined part count ++ back)
-  unfolding refileOf
-  file-is = refl
+  abbrev back : List ℕ
+  back = F.back p s t ok
 
   -- what lies before the data is the template's
   front-same : (i k : ℕ) → i + k ≤ h .start → from i k (refileOf s t) ≡ from i k t
   unfolding from
   front-same i k l =
-      ap (from i k) file-is ∙ from-within i k front (joined part count ++ back) (omega (arith, front-length))
-      ∙ from-from i k 0 (h .start) t l (omega (arith, end-ok)) ∙ ap (λ (x : ℕ). from x k t) zero-plus
+      ap (from i k) (F.file-is p s t ok) ∙ from-within i k front (joined part count ++ back) (omega (arith, F.front-length p s t ok))
+      ∙ from-from i k 0 (h .start) t l (omega (arith, F.end-ok p s t template)) ∙ ap (λ (x : ℕ). from x k t) zero-plus
     where
       zero-plus : 0 + i ≡ i
       zero-plus = omega arith
 
   early : 120 ≤ h .start
-  early = omega (arith, table-ok, start-ok)
+  early = omega (arith, F.table-ok p s t template, F.start-ok p s t template)
 
   same-number : (i k : ℕ) → i + k ≤ h .start → numAt i k (refileOf s t) ≡ numAt i k t
   unfolding numAt
@@ -255,48 +137,39 @@ module _ (p : PcmSpec) (s : List ℤ) (t : List ℕ) (ok : checkReencode p s t �
 
   pub signed-same : isSignature (refileOf s t) ≡ true
   unfolding isSignature from
-  signed-same = ap (λ (x : List ℕ). same x (signature 0x31) || same x (signature 0x30)) (front-same 0 8 (omega (arith, early))) ∙ signed-ok
-
-  size-is : h .size ≡ length (joined part count)
-  size-is = sym entry-last ∙ entries-same count (omega arith)
-
-  -- the new file is as long as the template
-  pub same-length : length (refileOf s t) ≡ length t
-  same-length =
-      ap length file-is ∙ length-append front (joined part count ++ back)
-      ∙ omega (arith, front-length, length-append (joined part count) back, length-drop (h .start + h .size) t, size-is, end-ok)
+  signed-same = ap (λ (x : List ℕ). same x (signature 0x31) || same x (signature 0x30)) (front-same 0 8 (omega (arith, early))) ∙ F.signed-ok p s t template
 
   pub entry-same : (k : ℕ) → k ≤ count → entry (refileOf s t) h k ≡ length (joined part k)
   unfolding entry
-  entry-same k l = same-number (h .table + 4 * k) 4 (omega (arith, room-ok, start-ok)) ∙ entries-same k l
+  entry-same k l = same-number (h .table + 4 * k) 4 (omega (arith, F.room-ok p s t template, F.start-ok p s t template)) ∙ F.entries-same p s t ok k l
 
   -- its groups are the new ones
   pub group-new : (g : ℕ) → g < count → group (refileOf s t) h g ≡ part g
   unfolding group
   group-new g l =
-      ap (from (h .start + entry (refileOf s t) h g) (entry (refileOf s t) h (g + 1) - entry (refileOf s t) h g)) file-is
-      ∙ between part g count (h .start) (entry (refileOf s t) h g) (entry (refileOf s t) h (g + 1)) front back l front-length (entry-same g (omega arith)) (entry-same (g + 1) (omega arith))
+      ap (from (h .start + entry (refileOf s t) h g) (entry (refileOf s t) h (g + 1) - entry (refileOf s t) h g)) (F.file-is p s t ok)
+      ∙ between part g count (h .start) (entry (refileOf s t) h g) (entry (refileOf s t) h (g + 1)) front back l (F.front-length p s t ok) (entry-same g (omega arith)) (entry-same (g + 1) (omega arith))
 
   offsets-fine : checkOffsets h (length (refileOf s t)) ≡ Fine
   unfolding checkOffsets
   offsets-fine =
-      pass _ _ (le-ltb (h .table) 120 table-ok)
-      and-then pass _ _ (le-ltb (h .start) (h .table) start-ok)
-      and-then pass _ _ (ap not (eq-eqb (h .start - h .table) (4 * (count + 1)) room-ok))
-      and-then pass _ _ (le-ltb (length (refileOf s t)) (h .start + h .size) (omega (arith, same-length, end-ok)))
+      pass _ _ (le-ltb (h .table) 120 (F.table-ok p s t template))
+      and-then pass _ _ (le-ltb (h .start) (h .table) (F.start-ok p s t template))
+      and-then pass _ _ (ap not (eq-eqb (h .start - h .table) (4 * (count + 1)) (F.room-ok p s t template)))
+      and-then pass _ _ (le-ltb (length (refileOf s t)) (h .start + h .size) (omega (arith, F.same-length p s t ok, F.end-ok p s t template)))
 
   pub layout : Layout (refileOf s t) h part
   layout =
       record {
         fields = fields-same;
-        long = omega (arith, same-length, long-ok);
+        long = omega (arith, F.same-length p s t ok, F.long-ok p s t template);
         signed = signed-same;
         offsets = offsets-fine;
-        size = size-is;
+        size = F.size-is p s t ok;
         entries = entry-same;
         groups = group-new;
         after = back;
-        data-is = ap (drop (h .start)) file-is ∙ drop-at front (joined part count ++ back) (h .start) front-length;
+        data-is = ap (drop (h .start)) (F.file-is p s t ok) ∙ drop-at front (joined part count ++ back) (h .start) (F.front-length p s t ok);
       }
 
   -- decoding accepts the new file
@@ -310,9 +183,9 @@ module _ (p : PcmSpec) (s : List ℤ) (t : List ℕ) (ok : checkReencode p s t �
   -- ---- the template itself: its groups, joined
   groups-so-far : (k : ℕ) → k ≤ count → joined (group t h) k ≡ from (h .start) (entry t h k) t
   unfolding joined group
-  groups-so-far zero l = sym (ap (λ (x : ℕ). from (h .start) x t) entry-zero ∙ from-none (h .start) t)
+  groups-so-far zero l = sym (ap (λ (x : ℕ). from (h .start) x t) (F.entry-zero p s t template) ∙ from-none (h .start) t)
   groups-so-far (suc k) l =
-      let r = rw add-one at (entry-rises k l) in
+      let r = rw add-one at (F.entry-rises p s t template k l) in
       let j : entry t h k + (entry t h (suc k) - entry t h k) ≡ entry t h (suc k) = omega arith in
       ap₂ (λ (x y : List ℕ). x ++ y) (groups-so-far k (omega arith)) (ap (λ (x : ℕ). from (h .start + entry t h k) (entry t h x - entry t h k) t) (add-one k))
       ∙ meet (h .start) (entry t h k) (entry t h (suc k) - entry t h k) t
@@ -322,22 +195,20 @@ module _ (p : PcmSpec) (s : List ℤ) (t : List ℕ) (ok : checkReencode p s t �
   data-there : joined (group t h) count ++ back ≡ drop (h .start) t
   unfolding from
   data-there =
-      ap (λ (x : List ℕ). x ++ back) (groups-so-far count (omega arith) ∙ ap (λ (x : ℕ). from (h .start) x t) entry-last)
+      ap (λ (x : List ℕ). x ++ back) (groups-so-far count (omega arith) ∙ ap (λ (x : ℕ). from (h .start) x t) (F.entry-last p s t template))
       ∙ ap (λ (x : List ℕ). take (h .size) (drop (h .start) t) ++ x) (sym (drop-drop (h .size) (h .start) t)) ∙ take-append-drop (h .size) (drop (h .start) t)
 
   group-offset : (k : ℕ) → k ≤ count → entry t h k ≡ length (joined (group t h) k)
-  group-offset k l =
-      let m = rising (entry t h) count entry-rises k l in
-      sym (ap length (groups-so-far k l) ∙ length-from (h .start) (entry t h k) t (omega (arith, entry-last, end-ok)))
+  group-offset k l = sym (ap length (groups-so-far k l) ∙ length-from (h .start) (entry t h k) t (F.entry-within p s t template k l))
 
   pub template-layout : Layout t h (group t h)
   template-layout =
       record {
         fields = refl;
-        long = long-ok;
-        signed = signed-ok;
-        offsets = subst (λ (n : ℕ). checkOffsets h n ≡ Fine) same-length offsets-fine;
-        size = sym entry-last ∙ group-offset count (omega arith);
+        long = F.long-ok p s t template;
+        signed = F.signed-ok p s t template;
+        offsets = subst (λ (n : ℕ). checkOffsets h n ≡ Fine) (F.same-length p s t ok) offsets-fine;
+        size = sym (F.entry-last p s t template) ∙ group-offset count (omega arith);
         entries = group-offset;
         groups = λ g l. refl;
         after = back;
@@ -384,5 +255,5 @@ module _ (p : PcmSpec) (s : List ℤ) (t : List ℕ) (ok : checkReencode p s t �
     -- is the template
     pub template-kept : refileOf s t ≡ t
     template-kept =
-        file-is ∙ ap (λ (x : List ℕ). front ++ (x ++ back)) (joined-cong part (group t h) count part-kept)
+        F.file-is p s t ok ∙ ap (λ (x : List ℕ). front ++ (x ++ back)) (joined-cong part (group t h) count part-kept)
         ∙ ap (λ (x : List ℕ). front ++ x) data-there ∙ take-append-drop (h .start) t

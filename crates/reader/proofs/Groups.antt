@@ -1,20 +1,17 @@
 -- The groups of a file that opens: where they lie, and what a loop over their checks says.
 use Prim.Native.Nat.{ℕ, _+_, _-_, _*_, _≤_, _<_}
-use mathlib.Core.Path.{_≡_, refl, sym, ap, ap₂, _∙_, subst}
+use mathlib.Core.Path.{_≡_, sym, ap, ap₂, _∙_}
 use mathlib.Core.List.{List}
 use native.Mathlib.Omega.{arith}
 use lib.ListN.{length, take, drop}
 use Rattle.format.specs.Lists.{from}
 use Rattle.format.specs.Header.{fieldsOf, groupsOf, entry, group}
-use Rattle.format.specs.Refusals.{inOrder}
 use Rattle.format.specs.Opening.{checkFields, checkOffsets, checkTable, checkOpen}
 use Rattle.format.specs.Decoding.{checkGroup}
-use Rattle.format.specs.declared.refusals.Refusal.{Refusal}
 use Rattle.format.specs.declared.refusals.Checked.{Checked}
-use Rattle.format.specs.declared.refusals.Checked.the-variants.{Fine, No}
+use Rattle.format.specs.declared.refusals.Checked.the-variants.{Fine}
 use Rattle.format.specs.declared.settings.SampleFormat.{SampleFormat}
 use Rattle.format.specs.declared.answers.Fields.{Fields}
-use Rattle.laws.proofs.Checks.{order-refuses}
 use Rattle.laws.proofs.Opened.{some-channels, depth-least, depth-most, data-past, data-within, end-within, entry-rises, opened-fields, opened-offsets, opened-table}
 
 module _ (s : List ℕ) (h : Fields) (opens : checkOpen s ≡ Fine) (reads : h ≡ fieldsOf s) where
@@ -58,15 +55,3 @@ module _ (s : List ℕ) (h : Fields) (opens : checkOpen s ≡ Fine) (reads : h �
     -- the group's checks, as they were made of that part
     pub part-checked : (f : SampleFormat) (k r : Checked) → k ≡ checkGroup h f (take (e - a) (drop a s)) → k ≡ r → checkGroup h f (group s h g) ≡ r
     part-checked f k r says t = ap (checkGroup h f) (sym part-is) ∙ sym says ∙ t
-
--- ---- checks in order, c of n made
-module _ (check : ℕ → Checked) (groups g n : ℕ) (all : groups ≡ n) (fine : inOrder check g ≡ Fine) where
-  pub order-ends : (r : Refusal) → g < groups → check g ≡ No r → No r ≡ inOrder check n
-  order-ends r l e = sym (order-refuses check n r (record { at = g; below = omega arith; before = fine; refuses = e }))
-
-  pub order-whole : g ≡ groups → Fine ≡ inOrder check n
-  order-whole e = sym (subst (λ (k : ℕ). inOrder check k ≡ Fine) (e ∙ all) fine)
-
-pub order-none : (check : ℕ → Checked) → inOrder check 0 ≡ Fine
-unfolding inOrder
-order-none check = refl

@@ -1,16 +1,19 @@
 // Recorded lists: the programs that go through one print a line for each case, and first of all what a spoiled room looks like.
 mod reading;
+mod rewriting;
 mod writing;
 
 pub enum List {
     Files,
     Samples,
+    Templates,
 }
 
 fn print_spoiled_rooms(list: List) {
     match list {
         List::Files => reading::print_spoiled_rooms(),
         List::Samples => writing::print_spoiled_rooms(),
+        List::Templates => writing::print_spoiled_rooms(),
     }
 }
 
@@ -19,6 +22,7 @@ fn next_case(list: List) -> bool {
     match list {
         List::Files => reading::next_case(),
         List::Samples => writing::next_case(),
+        List::Templates => rewriting::next_case(),
     }
 }
 

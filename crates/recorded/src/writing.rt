@@ -8,6 +8,8 @@ use format::StereoMode;
 use lent::Container;
 use libc::STDIN_FILENO;
 use read_bytes::read_u32_le;
+ghost use Prim.Native.Nat.{_+_, _≤_};
+ghost use lib.ListN.{length};
 
 fn mode_of(mode: u32) -> StereoMode {
     match mode {
@@ -27,9 +29,8 @@ fn print_file(file: &[u8]) {
     report::print_decoded(answer, &room);
 }
 
-fn run_case(p: PcmSpec, mode: StereoMode, samples: &[i32], file: &mut [u8]) {
-    report::fill(Container::Bytes, &mut [], file);
-    let answer = writer::encode_pcm(samples, p, mode, file);
+// The line of what was written, or refused.
+pub fn print_written(answer: Answer, file: &[u8]) {
     report::print_encoded(answer, file);
     let outcome = answer.outcome;
     if let Outcome::Wrote(n) = outcome {
@@ -39,6 +40,12 @@ fn run_case(p: PcmSpec, mode: StereoMode, samples: &[i32], file: &mut [u8]) {
         }
     }
     report::print(b"\n");
+}
+
+fn run_case(p: PcmSpec, mode: StereoMode, samples: &[i32], file: &mut [u8]) {
+    report::fill(Container::Bytes, &mut [], file);
+    let answer = writer::encode_pcm(samples, p, mode, file);
+    print_written(answer, file);
 }
 
 // The samples that the bytes are, as many as there is room for.
@@ -54,6 +61,19 @@ fn take_samples(bytes: &[u8], words: &mut [i32]) {
     }
 }
 
+// As many samples as there is room for, read through the bytes that are lent, and whether they were there.
+pub fn read_samples(bytes: &mut [u8], words: &mut [i32]) -> bool {
+    let n = words.len();
+    if bytes.len() / 4 < n {
+        return false;
+    }
+    if io::read_full(STDIN_FILENO, &mut bytes[..4 * n]) != 4 * n {
+        return false;
+    }
+    take_samples(&bytes[..4 * n], words);
+    true
+}
+
 // A case of n samples with room for m bytes, in the space that is lent, and whether it was there.
 fn read_case(
     n: usize,
@@ -67,18 +87,25 @@ fn read_case(
     if words.len() < n {
         return false;
     }
-    if bytes.len() / 4 < n {
-        return false;
-    }
     if file.len() < m {
         return false;
     }
-    if io::read_full(STDIN_FILENO, &mut bytes[..4 * n]) != 4 * n {
+    if read_samples(bytes, &mut words[..n]) {} else {
         return false;
     }
-    take_samples(&bytes[..4 * n], words);
     run_case(p, mode, &words[..n], &mut file[..m]);
     true
+}
+
+// The settings that three numbers of 4 bytes are.
+pub fn settings(head: &[u8], at: usize) -> PcmSpec
+    requires { ⌜ at + 12 ≤ length (now head) ⌝ }
+{
+    PcmSpec {
+        channels: (read_u32_le(head, at) % 65536) as u16,
+        bits_per_sample: (read_u32_le(head, at + 4) % 65536) as u16,
+        sample_rate: read_u32_le(head, at + 8),
+    }
 }
 
 pub fn next_case() -> bool {
@@ -88,11 +115,7 @@ pub fn next_case() -> bool {
     }
     let n = read_u32_le(&head, 0) as usize;
     let m = read_u32_le(&head, 4) as usize;
-    let p = PcmSpec {
-        channels: (read_u32_le(&head, 8) % 65536) as u16,
-        bits_per_sample: (read_u32_le(&head, 12) % 65536) as u16,
-        sample_rate: read_u32_le(&head, 16),
-    };
+    let p = settings(&head, 8);
     let mode = mode_of(read_u32_le(&head, 20));
     let mut bytes = [0u8; 8192];
     let mut words = [0i32; 2048];

@@ -1,2 +1,3 @@
--- the bytes of a number
+-- the bytes of a number; a run copied
 pub mod Laws
+pub mod Copying

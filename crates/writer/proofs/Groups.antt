@@ -18,7 +18,7 @@ use Rattle.header.proofs.Chain.{any-more, any-found}
 use Rattle.lent.specs.Lent.{framesFrom}
 use Rattle.writer.specs.Accepted.{Accepted}
 use Rattle.new_group.specs.Writable.{Writable}
-use Rattle.writer.proofs.Runs.{group-frames, group-inside, active-some}
+use Rattle.group.proofs.Frames.{group-frames, group-inside, active-some}
 
 -- ---- parity
 abbrev pub differs : List ℤ → ℕ → Bool

@@ -1,5 +1,4 @@
--- groups as runs of frames; the loops over them; table and groups; header and file
-pub mod Runs
+-- the loops over groups; table and groups; header and file
 pub mod Groups
 pub mod Filling
 pub mod Heading

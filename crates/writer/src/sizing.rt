@@ -28,7 +28,7 @@ pub fn parity_differs(which: Container, words: &[i32], bytes: &[u8], frames: u32
     let mut g: u32 = 0;
     while g < groups {
         let n = group::active(frames, g);
-        if new_group::frames_parity(which, words, bytes, 512 * g as usize, n) {} else {
+        if stereo::frames_parity(which, words, bytes, 512 * g as usize, n) {} else {
             return true;
         }
         g += 1;

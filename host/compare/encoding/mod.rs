@@ -10,6 +10,7 @@ use crate::families::Family;
 use crate::input::{Difference, Input};
 use crate::lent::as_bytes;
 use crate::shrink::Search;
+use crate::writing::{Sampled, RATE};
 use answers::{OfCalls, Tally};
 
 /// All that a call is given, but for the room.
@@ -23,28 +24,24 @@ pub struct Call {
     pub mode: u32,
 }
 
-const RATE: u32 = 44_100;
-
 impl Call {
     fn new(samples: &[i32], channels: u16, depth: u16, mode: u32) -> Self {
         Call { samples: as_bytes(samples), channels, depth, rate: RATE, mode }
     }
 
-    /// The same settings with other samples.
-    fn with(&self, samples: &[i32]) -> Self {
-        Call { samples: as_bytes(samples), ..*self }
-    }
-
-    /// The samples, if the last one is whole.
-    fn numbers(&self) -> Option<Vec<i32>> {
-        let whole = self.samples.len() % 4 == 0;
-        let number = |four: &[u8]| i32::from_le_bytes([four[0], four[1], four[2], four[3]]);
-        whole.then(|| self.samples.chunks_exact(4).map(number).collect())
-    }
-
     /// The most bytes that a file of so many samples can have.
     fn longest(&self) -> usize {
         124 + self.samples.len().div_ceil(2048) * (4 + 2 * (16 + 64 * 24))
+    }
+}
+
+impl Sampled for Call {
+    fn bytes(&self) -> &[u8] {
+        &self.samples
+    }
+
+    fn with(&self, samples: &[i32]) -> Self {
+        Call { samples: as_bytes(samples), ..*self }
     }
 }
 
@@ -70,8 +67,9 @@ impl Input for Call {
         shrink::shrink(search);
     }
 
-    fn shown(&self) -> (String, &[u8]) {
-        let Call { channels, depth, rate, mode, .. } = self;
-        (format!(" of samples, channels {channels}, depth {depth}, rate {rate}, mode {mode}"), &self.samples)
+    fn shown(&self) -> (String, Vec<&[u8]>) {
+        let Call { samples, channels, depth, rate, mode } = self;
+        let settings = format!("channels {channels}, depth {depth}, rate {rate}, mode {mode}");
+        (format!("{} bytes of samples, {settings}", samples.len()), vec![samples])
     }
 }

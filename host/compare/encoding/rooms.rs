@@ -3,7 +3,7 @@ use super::answers::Tally;
 use super::Call;
 use crate::boundary;
 use crate::input::Difference;
-use crate::lent::{self, check_room, Lent, Written, MOST_REFUSED};
+use crate::lent::{self, check_room, Lent, Written};
 
 pub fn check(call: &Call, written: &Written, tally: &mut Tally) -> Result<(), Difference> {
     let mark = lent::mark(&call.samples) + usize::from(call.channels) + call.mode as usize;
@@ -18,6 +18,6 @@ pub fn check(call: &Call, written: &Written, tally: &mut Tally) -> Result<(), Di
 fn rooms(call: &Call, written: &Written, mark: usize) -> Vec<usize> {
     match written {
         Ok(file) => lent::rooms(file.len(), mark),
-        Err(_) => vec![0, 8 + mark % 90, call.longest().min(MOST_REFUSED) + mark % 7],
+        Err(_) => lent::rooms_refused(call.longest(), mark),
     }
 }

@@ -1,12 +1,14 @@
 //! A smaller call on which the two sides still differ.
-use super::{Call, RATE};
+use super::Call;
+use crate::writing::shrink::alone;
+use crate::writing::{Sampled, RATE};
 use std::iter::successors;
 
 type Search = crate::shrink::Search<Call>;
 
 pub fn shrink(search: &mut Search) {
     while search.simplify() || search.shorten() || search.flatten() {}
-    search.lessen();
+    search.lessen_each();
 }
 
 impl Search {
@@ -16,7 +18,7 @@ impl Search {
         let channels = [1, 2].map(|channels| Call { channels, ..call.clone() });
         let depths = [16, 24].map(|depth| Call { depth, ..call.clone() });
         let modes = [0, 1, 2].map(|mode| Call { mode, ..call.clone() });
-        let plain = [alone(&call, 0), alone(&call, 1), Call { rate: RATE, ..call.clone() }];
+        let plain = [mono(&call, 0), mono(&call, 1), Call { rate: RATE, ..call.clone() }];
         let all = channels.into_iter().chain(depths).chain(modes).chain(plain);
         all.filter(|other| settings(other) < settings(&call)).any(|other| self.keeps(other))
     }
@@ -34,40 +36,12 @@ impl Search {
             self.keeps(call)
         })
     }
-
-    /// All samples zero, or half of what they were.
-    fn flatten(&mut self) -> bool {
-        let samples = self.input.numbers().unwrap_or_default();
-        [0, 1].into_iter().any(|half| {
-            let less: Vec<i32> = samples.iter().map(|sample| sample / 2 * half).collect();
-            !samples.is_empty() && self.keeps(self.input.with(&less))
-        })
-    }
-
-    /// Each sample as near to zero as it comes.
-    fn lessen(&mut self) {
-        let count = self.input.numbers().map_or(0, |samples| samples.len());
-        for at in 0..count {
-            while self.lessen_one(at) {}
-        }
-    }
-
-    fn lessen_one(&mut self, at: usize) -> bool {
-        let samples = self.input.numbers().unwrap_or_default();
-        let mut steps = successors(Some(samples[at]), |step| Some(step / 2)).take_while(|step| *step != 0);
-        steps.any(|step| {
-            let mut less = samples.clone();
-            less[at] -= step;
-            self.keeps(self.input.with(&less))
-        })
-    }
 }
 
 /// One channel of two, in a mode that mono can have.
-fn alone(call: &Call, channel: usize) -> Call {
+fn mono(call: &Call, channel: usize) -> Call {
     let samples = call.numbers().unwrap_or_default();
-    let one: Vec<i32> = samples.into_iter().skip(channel).step_by(2).collect();
-    Call { channels: 1, mode: 0, ..call.with(&one) }
+    Call { channels: 1, mode: 0, ..call.with(&alone(&samples, channel)) }
 }
 
 /// How far the settings are from mono, 16 bits, Auto, 44,100.

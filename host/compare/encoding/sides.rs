@@ -3,6 +3,7 @@ use super::Call;
 use crate::asking::{ask, Answer, Question};
 use crate::input::number_of;
 use crate::lent::Written;
+use crate::writing::Sampled;
 
 /// The modes by their numbers.
 const MODES: [ncw::StereoMode; 3] = [ncw::StereoMode::Auto, ncw::StereoMode::Direct, ncw::StereoMode::MidSide];

@@ -1,4 +1,4 @@
-//! The calls of the host boundary, with a fault planted after decoding and encoding: `PLANTED` says which.
+//! The calls of the host boundary, with a fault planted after decoding, encoding and re-encoding: `PLANTED` says which.
 use std::sync::OnceLock;
 
 pub use ours::boundary::open;
@@ -16,11 +16,23 @@ pub fn decode(file: &[u8], samples: &mut [u8]) -> u64 {
 
 pub fn encode(samples: &[u8], channels: u16, depth: u16, rate: u32, mode: u32, file: &mut [u8]) -> u64 {
     let answer = ours::boundary::encode(samples, channels, depth, rate, mode, file);
-    if planted() == "a byte of the samples changed" && !samples.is_empty() {
-        // SAFETY: there is none. A call by pointers could do this, and it is planted to see that it is found.
-        unsafe { samples.as_ptr().cast_mut().write_volatile(samples[0] ^ 0x40) }
-    }
+    spoil_input("a byte of the samples changed", samples);
     spoiled(answer, file)
+}
+
+pub fn reencode(samples: &[u8], channels: u16, depth: u16, rate: u32, template: &[u8], file: &mut [u8]) -> u64 {
+    let answer = ours::boundary::reencode(samples, channels, depth, rate, template, file);
+    spoil_input("a byte of the samples changed", samples);
+    spoil_input("a byte of the template changed", template);
+    spoiled(answer, file)
+}
+
+/// Changes what was lent for reading.
+fn spoil_input(name: &str, lent: &[u8]) {
+    if planted() == name && !lent.is_empty() {
+        // SAFETY: there is none. A call by pointers could do this, and it is planted to see that it is found.
+        unsafe { lent.as_ptr().cast_mut().write_volatile(lent[0] ^ 0x40) }
+    }
 }
 
 /// A call's answer, with the fault in it or in its room.

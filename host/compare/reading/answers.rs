@@ -1,23 +1,20 @@
 //! How many files met each answer.
-use super::sides::{Refused, Said};
-use crate::input::{add_all, word, Answers, SUCCESS};
-use std::collections::{BTreeMap, BTreeSet};
+use super::sides::Said;
+use crate::input::{word, Answers, Refused, SUCCESS};
+use crate::table::{line, Table};
 
 pub type Tally = crate::input::Tally<OfFiles>;
 
-/// Decoding is asked of the files that open.
+/// By number: opening, and decoding, which is asked of the files that open.
 #[derive(Default)]
-pub struct OfFiles {
-    opened: BTreeMap<u32, u64>,
-    decoded: BTreeMap<u32, u64>,
-}
+pub struct OfFiles(Table<u32, 2>);
 
 impl Tally {
     pub fn note(&mut self, said: &Said) {
         self.inputs += 1;
-        *self.answers.opened.entry(number(&said.opened)).or_default() += 1;
+        self.answers.0.note(number(&said.opened), 0);
         if said.opened.is_ok() {
-            *self.answers.decoded.entry(number(&said.decoded)).or_default() += 1;
+            self.answers.0.note(number(&said.decoded), 1);
             self.samples += said.decoded.as_ref().map_or(0, Vec::len) as u64;
         }
     }
@@ -29,16 +26,11 @@ fn number<T>(said: &Result<T, Refused>) -> u32 {
 
 impl Answers for OfFiles {
     fn add(&mut self, other: &Self) {
-        add_all(&mut self.opened, &other.opened);
-        add_all(&mut self.decoded, &other.decoded);
+        self.0.add(&other.0);
     }
 
     fn print(&self) {
-        println!("{:>12} {:>10} {:>10}", "answer", "opening", "decoding");
-        let numbers: BTreeSet<u32> = self.opened.keys().chain(self.decoded.keys()).copied().collect();
-        for number in numbers {
-            let [opened, decoded] = [&self.opened, &self.decoded].map(|times| times.get(&number).copied().unwrap_or(0));
-            println!("{:>12} {opened:>10} {decoded:>10}", word(number));
-        }
+        line("answer", ["opening", "decoding"]);
+        self.0.print(word);
     }
 }

@@ -1,8 +1,8 @@
 //! One file on both sides.
 use super::answers::Tally;
 use super::rooms;
-use super::sides::{drop_in, original, Refused};
-use crate::input::{calmly, differ, differ_in, Difference};
+use super::sides::{drop_in, original};
+use crate::input::{calmly, differ, differ_in, Difference, Refused};
 
 pub fn check(file: &[u8], tally: &mut Tally) -> Result<(), Difference> {
     let rust = calmly("the Rust original", || original(file))?;

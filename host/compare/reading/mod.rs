@@ -33,7 +33,7 @@ impl Input for Vec<u8> {
         shrink::shrink(search);
     }
 
-    fn shown(&self) -> (String, &[u8]) {
-        (String::new(), self)
+    fn shown(&self) -> (String, Vec<&[u8]>) {
+        (format!("{} bytes", self.len()), vec![self])
     }
 }

@@ -1,10 +1,7 @@
 //! What either side says of a file: the Rust original, and ours by its drop-in crate.
 use crate::asking::{ask, Answer, Question};
-use crate::input::number_of;
+use crate::input::{refused, Refused};
 use std::io::Cursor;
-
-/// Document 01's number, and the bits word where that is 4.
-pub type Refused = (u32, i16);
 
 #[derive(Debug, PartialEq)]
 pub struct Opened {
@@ -64,13 +61,5 @@ pub fn drop_in(file: &[u8]) -> Said {
     match ours::NcwReader::read(Cursor::new(file)) {
         Ok(mut reader) => Said { opened: Ok(opened!(ours, reader)), decoded: reader.decode_samples().map_err(refused) },
         Err(error) => Said::refused(refused(error)),
-    }
-}
-
-fn refused(error: ours::NcwError) -> Refused {
-    let number = number_of(&error);
-    match error {
-        ours::NcwError::UnsupportedBitDepth(bits) => (number, bits),
-        _ => (number, 0),
     }
 }

@@ -1,4 +1,4 @@
-//! The three calls of the archive as they are: they answer a length in bytes, or [`REFUSED`] plus the number of a refusal.
+//! The four calls of the archive as they are: they answer a length in bytes, or [`REFUSED`] plus the number of a refusal.
 //!
 //! All that is `unsafe` in this crate is here.
 #![allow(unsafe_code)]
@@ -26,6 +26,17 @@ extern "C" {
         file: *mut u8,
         file_len: usize,
     ) -> u64;
+    fn ncw_reencode(
+        samples: *const u8,
+        samples_len: usize,
+        channels: u16,
+        depth: u16,
+        rate: u32,
+        template: *const u8,
+        template_len: usize,
+        file: *mut u8,
+        file_len: usize,
+    ) -> u64;
 }
 
 /// Opens a file: how many bytes decoding it would write, if it does not refuse.
@@ -49,6 +60,15 @@ pub fn encode(samples: &[u8], channels: u16, depth: u16, rate: u32, mode: u32, f
     // SAFETY: the call reads the bytes of `samples`, writes bytes of `file`, touches no others, and keeps nothing of them.
     // The borrows keep the two apart.
     unsafe { ncw_encode(from, samples.len(), channels, depth, rate, mode, room, file.len()) }
+}
+
+/// Re-encodes samples, 4 bytes each with the lowest first, as the file `template` is encoded: how many bytes of `file` were written,
+/// from the first on, which is the template's length. Where it refuses none is changed, and what lies after the written ones stays.
+pub fn reencode(samples: &[u8], channels: u16, depth: u16, rate: u32, template: &[u8], file: &mut [u8]) -> u64 {
+    let (from, like, room) = (samples.as_ptr(), template.as_ptr(), file.as_mut_ptr());
+    // SAFETY: the call reads the bytes of `samples` and `template`, writes bytes of `file`, touches no others, and keeps nothing
+    // of them. The borrows keep what is written apart from what is read.
+    unsafe { ncw_reencode(from, samples.len(), channels, depth, rate, like, template.len(), room, file.len()) }
 }
 
 /// The same samples as bytes.

@@ -3,12 +3,13 @@ use std::error::Error;
 use std::fmt;
 use std::io;
 
-/// Why a file was not opened or not decoded, or samples were not encoded.
+/// Why a file was not opened or not decoded, or samples were not encoded or not re-encoded.
 #[derive(Debug)]
 pub enum NcwError {
-    /// The input ends too soon (refusal 1, of the kind [`io::ErrorKind::UnexpectedEof`]), or reading it failed.
+    /// The input or the template ends too soon (refusal 1, of the kind [`io::ErrorKind::UnexpectedEof`]), or reading the input
+    /// failed.
     Io(io::Error),
-    /// The file does not begin as an NCW file (refusal 2).
+    /// The file or the template does not begin as an NCW file (refusal 2).
     InvalidFileSignature,
     /// A block does not begin as a block (refusal 3).
     InvalidBlockSignature,
@@ -49,7 +50,7 @@ const REFUSALS: [(u32, &str); 35] = [
     (38, "unknown mode"),
     (39, "sample bytes not a multiple of 4"),
     (40, "the template's channels, depth, rate or frames differ from the call's"),
-    (41, "the template's table or data bounds"),
+    (41, "wrong bounds of the template's table or data"),
     (42, "the template's offsets not rising from 0 to the data size"),
     (43, "template group under 12 bytes"),
     (44, "template bits 0 or 1"),

@@ -12,4 +12,4 @@ pub use error::NcwError;
 pub use opened::{NcwHeader, Opened, SampleFormat, SAMPLES_PER_BLOCK};
 pub use reader::NcwReader;
 pub use slices::{decode_bytes, decode_into, open};
-pub use writer::{encode_into, encode_pcm, PcmSpec, StereoMode};
+pub use writer::{encode_into, encode_pcm, encode_pcm_with_template, encode_with_template_into, PcmSpec, StereoMode};

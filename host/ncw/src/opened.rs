@@ -72,8 +72,8 @@ impl NcwHeader {
     }
 }
 
-/// The first bits word beyond 32, of a file that decoding refuses for it: the archive gives the number 4 alone. All blocks before
-/// were accepted with their groups, so they lie end to end from the data offset on.
+/// The first bits word beyond 32, of a file that decoding refuses for it, or of a template that re-encoding does: the archive gives
+/// the number 4 alone. All blocks before were accepted with their groups, so they lie end to end from the data offset on.
 pub(crate) fn bits_beyond(file: &[u8]) -> Option<i16> {
     let header = NcwHeader::of(file)?;
     let mut place = header.data_offset as usize;

@@ -1,7 +1,7 @@
-//! Encoding by its original name, and into lent room.
+//! Encoding and re-encoding by their original names, and into lent room.
 use crate::boundary;
 use crate::error::NcwError;
-use crate::opened::SAMPLES_PER_BLOCK;
+use crate::opened::{bits_beyond, SAMPLES_PER_BLOCK};
 use crate::slices::answered;
 
 /// How the two channels of a stereo file are written.
@@ -26,7 +26,7 @@ impl StereoMode {
     }
 }
 
-/// What is to be encoded: 1 or 2 channels, 16 or 24 bits.
+/// What is to be encoded or re-encoded: 1 or 2 channels, 16 or 24 bits.
 #[derive(Clone, Copy, Debug)]
 pub struct PcmSpec {
     /// How many samples a frame has.
@@ -71,6 +71,54 @@ pub fn encode_into(samples: &[i32], spec: PcmSpec, mode: StereoMode, file: &mut 
     let PcmSpec { channels, bits_per_sample, sample_rate } = spec;
     let samples = boundary::as_bytes(samples);
     answered(boundary::encode(samples, channels, bits_per_sample, sample_rate, mode.number(), file), i16::default)
+}
+
+/// Encodes samples as the file `template` is encoded. Every byte is the template's, but for what the samples determine: packed values,
+/// and the base of blocks of differences. What lies after a channel's last sample in its block stays.
+///
+/// The template has the channels, the depth, the rate and the frames of the samples. Values and differences that don't fit the width
+/// of its block are refused; none is changed to fit. The file decodes to the samples, and may be the template of others just as well.
+///
+/// ```
+/// use ncw::{encode_pcm, encode_pcm_with_template, PcmSpec, StereoMode};
+///
+/// let spec = PcmSpec { channels: 1, bits_per_sample: 16, sample_rate: 44_100 };
+/// let mut template = encode_pcm(&[5], spec, StereoMode::Auto).unwrap();
+/// template[100] = 77;
+/// let file = encode_pcm_with_template(&[4], spec, &template).unwrap();
+/// assert_eq!((file.len(), file[100], file[132]), (272, 77, 4));
+/// let refused = encode_pcm_with_template(&[3], spec, &template).unwrap_err();
+/// assert_eq!((refused.number(), refused.to_string()), (Some(36), "value or difference doesn't fit width".to_string()));
+/// ```
+pub fn encode_pcm_with_template(samples: &[i32], spec: PcmSpec, template: &[u8]) -> Result<Vec<u8>, NcwError> {
+    let mut file = vec![0; template.len()];
+    encode_with_template_into(samples, spec, template, &mut file)?;
+    Ok(file)
+}
+
+/// The same into room that the caller lends: how many bytes were written, from the first on, which is the template's length. What
+/// lies after them stays, and where it refuses nothing is changed. Too little room is refusal 50, and comes after all others.
+///
+/// ```
+/// use ncw::{encode_pcm, encode_with_template_into, PcmSpec, StereoMode};
+///
+/// let spec = PcmSpec { channels: 1, bits_per_sample: 16, sample_rate: 44_100 };
+/// let template = encode_pcm(&[5], spec, StereoMode::Auto).unwrap();
+/// let mut room = [7; 273];
+/// assert_eq!(encode_with_template_into(&[4], spec, &template, &mut room).unwrap(), 272);
+/// assert_eq!(room[272], 7);
+/// assert_eq!(encode_with_template_into(&[4], spec, &template, &mut room[..271]).unwrap_err().number(), Some(50));
+/// ```
+pub fn encode_with_template_into(
+    samples: &[i32],
+    spec: PcmSpec,
+    template: &[u8],
+    file: &mut [u8],
+) -> Result<usize, NcwError> {
+    let PcmSpec { channels, bits_per_sample, sample_rate } = spec;
+    let samples = boundary::as_bytes(samples);
+    let answer = boundary::reencode(samples, channels, bits_per_sample, sample_rate, template, file);
+    answered(answer, || bits_beyond(template).unwrap_or_default())
 }
 
 /// The most bytes that a file of so many samples has: every block raw. Settings that are refused need no room, and data of more

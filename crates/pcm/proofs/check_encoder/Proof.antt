@@ -6,7 +6,7 @@ use Rattle.pcm.proofs.check_encoder.Tie as tie
 
 returns : tie.Need-returns
 unfolding checkEncoder
-returns c = c .check-spec .ensures (16 ∷ 24 ∷ []) (c .before .encoder-depth .ensures)
+returns c = c .check-spec .ensures (16 ∷ 24 ∷ []) (c .before .writer-depth .ensures)
 
 pub check-encoder-spec : {M : Type 1} → statement M
 check-encoder-spec =

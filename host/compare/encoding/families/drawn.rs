@@ -1,7 +1,8 @@
 //! Random calls, most of them short and without a fault.
-use super::lengths::by_groups;
-use super::{Call, Part, DEPTHS};
+use super::{Call, Part};
 use crate::random::Random;
+use crate::writing::lists::by_groups;
+use crate::writing::DEPTHS;
 
 /// One call of so many has a fault.
 const ONE_WITH_A_FAULT: usize = 12;

@@ -1,8 +1,9 @@
 //! Every short length, and those about whole groups.
-use super::{Call, Part, Picks, CHANNELS, DEPTHS, MODES};
+use super::{Call, Part, MODES};
+use crate::picks::Picks;
 use crate::random::Random;
-use crate::samples::samples;
-use ncw::PcmSpec;
+use crate::writing::lists::by_groups;
+use crate::writing::{CHANNELS, DEPTHS};
 
 const LONGEST: usize = 1_100;
 const FRAMES: [usize; 12] = [511, 512, 513, 1_023, 1_024, 1_025, 1_535, 1_536, 1_537, 2_047, 2_048, 2_049];
@@ -28,10 +29,4 @@ pub fn all() -> Vec<Part> {
 fn drawn(channels: u16, frames: usize, picks: &mut Picks, seed: usize) -> Call {
     let (depth, mode) = (picks.pick(&DEPTHS), picks.pick(&MODES));
     Call::new(&by_groups(channels, depth, frames, &mut Random::new(seed as u64)), channels, depth, mode)
-}
-
-/// Samples of any kind that `host/definitions` has, another in each group.
-pub fn by_groups(channels: u16, depth: u16, frames: usize, random: &mut Random) -> Vec<i32> {
-    let spec = PcmSpec { channels, bits_per_sample: depth, sample_rate: 1 };
-    (0..frames).step_by(512).flat_map(|first| samples(spec, 512.min(frames - first), random)).collect()
 }

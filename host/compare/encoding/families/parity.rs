@@ -1,25 +1,22 @@
 //! Frames of equal parity but for one, at any place.
-use super::{woven, Call, Part, Picks, DEPTHS, MODES};
+use super::{Call, Part, MODES};
+use crate::picks::Picks;
 use crate::samples::limits;
+use crate::writing::lists::{add, place, woven, ADDED, PLACES};
+use crate::writing::DEPTHS;
 
 const FRAMES: [usize; 11] = [1, 2, 3, 100, 511, 512, 513, 700, 1_024, 1_025, 1_100];
-const PLACES: usize = 8;
-
-/// What is added to left and right of one frame. The last two leave parity equal.
-const ADDED: [(i32, i32); 5] = [(1, 0), (0, 1), (-1, 0), (1, 1), (0, 0)];
-
 const KINDS: usize = 6;
 
 pub fn all() -> Part {
     Part::new(FRAMES.len() * PLACES * ADDED.len() * KINDS * DEPTHS.len() * MODES.len(), |k| {
         let picks = &mut Picks(k);
-        let (n, place, added) = (picks.pick(&FRAMES), picks.below(PLACES), picks.pick(&ADDED));
+        let (frames, at, added) = (picks.pick(&FRAMES), picks.below(PLACES), picks.pick(&ADDED));
         let (kind, depth, mode) = (picks.below(KINDS), picks.pick(&DEPTHS), picks.pick(&MODES));
-        let at = [0, 1, n / 2, n.saturating_sub(2), n - 1, 511, 512, 513][place].min(n - 1);
-        let (mut left, mut right) = even(kind, n, depth);
-        left[at] += added.0;
-        right[at] += added.1;
-        Call::new(&woven(&left, &right), 2, depth, mode)
+        let (left, right) = even(kind, frames, depth);
+        let mut samples = woven(&left, &right);
+        add(&mut samples, place(at, frames), added);
+        Call::new(&samples, 2, depth, mode)
     })
 }
 

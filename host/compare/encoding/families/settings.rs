@@ -1,43 +1,27 @@
 //! All settings with few samples, sample bytes that end too soon, and values at the limits of a depth.
-use super::{Call, Part, Picks, CHANNELS, DEPTHS, MODES};
+use super::{Call, Part, MODES};
+use crate::picks::Picks;
 use crate::random::Random;
 use crate::samples::limits as limits_of;
+use crate::writing::settings::{few, ragged as ragged_bytes, settings, LISTS, RAGGED, SETTINGS};
+use crate::writing::{CHANNELS, DEPTHS};
 
-/// Of those beyond some have an accepted number in their lower bits.
-const ANY_CHANNELS: [u16; 8] = [0, 1, 2, 3, 4, 257, 258, 65_535];
-const DEPTHS_BEYOND: [u16; 10] = [48, 64, 255, 256, 272, 280, 4_112, 32_768, 32_784, 65_535];
-const RATES: [u32; 4] = [0, 1, 44_100, u32::MAX];
 const ANY_MODES: [u32; 8] = [0, 1, 2, 3, 4, 256, 65_537, u32::MAX];
 
-/// Empty, whole and half frames, equal and other parity, a value outside 16 bits and one outside 24.
-const FEW: [&[i32]; 8] = [&[], &[5], &[3, 5], &[3, 4], &[1, 2, 3], &[40_000, 2], &[7, i32::MAX], &[i32::MIN]];
-
-/// Every list whole, and without the last byte.
 pub fn all() -> Part {
-    let depths: Vec<u16> = (0..=40).chain(DEPTHS_BEYOND).collect();
-    let lists = 2 * FEW.len();
-    Part::new(ANY_CHANNELS.len() * depths.len() * RATES.len() * ANY_MODES.len() * lists, move |k| {
+    Part::new(SETTINGS * ANY_MODES.len() * LISTS, |k| {
         let picks = &mut Picks(k);
-        let (channels, depth) = (picks.pick(&ANY_CHANNELS), picks.pick(&depths));
-        let (rate, mode) = (picks.pick(&RATES), picks.pick(&ANY_MODES));
-        let mut call = Call { rate, ..Call::new(picks.pick(&FEW), channels, depth, mode) };
-        call.samples.truncate(call.samples.len().saturating_sub(picks.below(2)));
-        call
+        let (channels, depth, rate) = settings(picks);
+        Call { mode: picks.pick(&ANY_MODES), samples: few(picks), channels, depth, rate }
     })
 }
 
-const BYTES: [u8; 3] = [0x00, 0x7F, 0xFF];
-
-/// Every short length, and those about a whole group.
 pub fn ragged() -> Part {
-    let lengths: Vec<usize> = (0..=41).chain(2045..=2051).chain(4093..=4099).collect();
     let (channels, depths) = ([0, 1, 2, 3], [8, 16, 24]);
-    let count = lengths.len() * channels.len() * depths.len() * BYTES.len() * 4;
-    Part::new(count, move |k| {
+    Part::new(RAGGED * channels.len() * depths.len() * 4, move |k| {
         let picks = &mut Picks(k);
-        let (length, channels, depth) = (picks.pick(&lengths), picks.pick(&channels), picks.pick(&depths));
-        let call = Call::new(&[], channels, depth, picks.below(4) as u32);
-        Call { samples: vec![picks.pick(&BYTES); length], ..call }
+        let (samples, channels, depth) = (ragged_bytes(picks), picks.pick(&channels), picks.pick(&depths));
+        Call { samples, ..Call::new(&[], channels, depth, picks.below(4) as u32) }
     })
 }
 

@@ -1,15 +1,12 @@
--- Each part is within the space that is lent: the first three tests say so.
+-- Each part is within the space that is lent: the first two tests say so.
 use native.Mathlib.Omega.{arith}
 use lib.ListN.{length-take}
 use borrow.Author.Needs.{needs}
 use Rattle.recorded.proofs.writing.read_case.Statement.{statement}
 use Rattle.recorded.proofs.writing.read_case.Tie as tie
 
-slice-aggregate-read-full : tie.Need-slice-aggregate-read-full
-slice-aggregate-read-full c = simp length-take (omega arith)
-
-slice-aggregate-take-samples : tie.Need-slice-aggregate-take-samples
-slice-aggregate-take-samples c = simp length-take (omega arith)
+slice-aggregate-read-samples : tie.Need-slice-aggregate-read-samples
+slice-aggregate-read-samples c = simp length-take (omega arith)
 
 slice-aggregate-run-case : tie.Need-slice-aggregate-run-case
 slice-aggregate-run-case c = simp length-take (omega arith)
@@ -24,17 +21,11 @@ read-case-spec =
     (λ c. search needs)
     (λ c. search needs)
     (λ c. search needs)
-    (λ c. search needs)
-    (λ c. search needs)
-    slice-aggregate-read-full
+    slice-aggregate-read-samples
     (λ c κs. search needs)
     (λ c. search needs)
     (λ c. search needs)
     (λ c. search needs)
-    (λ c. search needs)
-    (λ c. search needs)
-    slice-aggregate-take-samples
-    (λ c κs. search needs)
     (λ c. search needs)
     slice-aggregate-run-case
     (λ c. search needs)

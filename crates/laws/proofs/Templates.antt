@@ -1,0 +1,147 @@
+-- What passed checks of a template's block and group tell, and that the new ones are as long.
+use Prim.Native.Nat.{ℕ, zero, suc, _+_, _≤_, _<_}
+use mathlib.Core.Path.{_≡_, ap, _∙_, subst}
+use mathlib.Core.Bool.{Bool, true, false, cond, not, _&&_}
+use mathlib.Core.List.{List, [], _++_}
+use native.Mathlib.Omega.{arith}
+use lib.ListN.{length, getD, take, length-append, length-drop}
+use lib.Seq.{length-take-le}
+use lib.IntN.{ℤ}
+use lib.Dec.{eqb}
+use borrow.Author.Tests.{ltb-false, eqb-true, eqb-false, not-false}
+use Rattle.format.specs.Lists.{from, joined}
+use Rattle.format.specs.Numbers.{numAt, codeOf}
+use Rattle.format.specs.Packed.{widthOf, packing, isBeyond}
+use Rattle.format.specs.declared.packed.Coding.{Coding}
+use Rattle.format.specs.declared.packed.Coding.the-variants.{Differences, Raw, Beyond}
+use Rattle.format.specs.Blocks.{isBlock, midBit, codingOf, sizeOf, rest}
+use Rattle.format.specs.Encoding.{plain, head0, midSide, parity}
+use Rattle.format.specs.Reencoding.{valuesFor, baseFor, newBlock, checkNewBlock, activeIn, checkNewGroup, newGroup}
+use Rattle.format.specs.declared.refusals.Checked.the-variants.{Fine}
+use Rattle.laws.proofs.Parts.{length-from}
+use Rattle.laws.proofs.Checks.{first-fine, others-fine, passed, order-fine}
+use Rattle.laws.proofs.Digits.{length-le}
+use Rattle.laws.proofs.Signs.{AllHold, length-packing, every-holds}
+
+-- ---- what a passed check of a template's block tells
+pub record Template (depth : ℕ) (r : List ℕ) (xs : List ℤ) : Type 0 where
+  pub head : 16 ≤ length r
+  pub mark : isBlock r ≡ true
+  pub bits : 2 ≤ numAt 8 2 r
+  pub flags : numAt 10 2 r < 2
+  pub within : isBeyond (codingOf depth r) ≡ false
+  pub sized : sizeOf depth r ≤ length r
+  pub fit : AllHold (widthOf (codingOf depth r)) (valuesFor depth r xs)
+
+pub template-ok : (depth : ℕ) (r : List ℕ) (xs : List ℤ) → checkNewBlock depth r xs ≡ Fine → Template depth r xs
+unfolding checkNewBlock
+template-ok depth r xs e =
+    let e2 = others-fine _ _ e in
+    let e3 = others-fine _ _ e2 in
+    let e4 = others-fine _ _ e3 in
+    let e5 = others-fine _ _ e4 in
+    let e6 = others-fine _ _ e5 in
+    let e7 = others-fine _ _ e6 in
+    let e8 = others-fine _ _ e7 in
+    let not0 = eqb-false (numAt 8 2 r) 0 (passed _ _ (first-fine _ _ e3)) in
+    let not1 = eqb-false (numAt 8 2 r) 1 (passed _ _ (first-fine _ _ e4)) in
+    let f = ltb-false 1 (numAt 10 2 r) (passed _ _ (first-fine _ _ e5)) in
+    record {
+      head = ltb-false (length r) 16 (passed _ _ (first-fine _ _ e));
+      mark = not-false _ (passed _ _ (first-fine _ _ e2));
+      bits = omega arith;
+      flags = omega arith;
+      within = passed _ _ (first-fine _ _ e6);
+      sized = ltb-false (length r) (sizeOf depth r) (passed _ _ (first-fine _ _ e7));
+      fit = every-holds (widthOf (codingOf depth r)) (valuesFor depth r xs) (not-false _ (passed _ _ e8));
+    }
+
+pub base-4 : (k : Coding) (r : List ℕ) (xs : List ℤ) → 16 ≤ length r → length (baseFor k r xs) ≡ 4
+unfolding baseFor
+base-4 (Differences b) r xs h = length-le 4 (codeOf 32 (head0 xs))
+base-4 (Raw b) r xs h = length-from 4 4 r (omega arith)
+base-4 Beyond r xs h = length-from 4 4 r (omega arith)
+
+-- the new block is as long as it was
+pub new-length : (depth : ℕ) (r : List ℕ) (xs : List ℤ) → 16 ≤ length r → length (newBlock depth r xs) ≡ sizeOf depth r
+unfolding newBlock sizeOf
+new-length depth r xs head =
+    let c = codingOf depth r in
+    let base = baseFor c r xs in
+    let pk = packing (widthOf c) (valuesFor depth r xs) in
+    length-append (take 4 r) (base ++ (from 8 8 r ++ pk))
+    ∙ omega (
+      arith,
+      length-take-le 4 r (omega arith),
+      base-4 c r xs head,
+      length-from 8 8 r (omega arith),
+      length-append base (from 8 8 r ++ pk),
+      length-append (from 8 8 r) pk,
+      length-packing (widthOf c) (valuesFor depth r xs),
+    )
+
+-- ---- a template's group bs that passed with the samples s
+module _ (depth n : ℕ) (bs : List ℕ) (s : List ℤ) (fine : checkNewGroup depth n bs s ≡ Fine) where
+  -- what begins with the template's block of channel c
+  abbrev r : ℕ → List ℕ
+  r c = rest depth bs c
+
+  -- the active samples of the channels
+  abbrev chans : List (List ℤ)
+  chans = activeIn n bs s
+
+  -- ---- what passed
+  pub head-ok : 12 ≤ length bs
+  unfolding checkNewGroup
+  head-ok = ltb-false (length bs) 12 (passed _ _ (first-fine _ _ fine))
+
+  pub stereo-ok : (midBit bs && not (eqb n 2)) ≡ false
+  unfolding checkNewGroup
+  stereo-ok = passed _ _ (first-fine _ _ (others-fine _ _ fine))
+
+  pub parity-ok : (midBit bs && not (parity (plain n s))) ≡ false
+  unfolding checkNewGroup
+  parity-ok = passed _ _ (first-fine _ _ (others-fine _ _ (others-fine _ _ fine)))
+
+  pub two-ok : midBit bs ≡ true → n ≡ 2
+  two-ok m = eqb-true n 2 (not-false _ (subst (λ (b : Bool). (b && not (eqb n 2)) ≡ false) m stereo-ok))
+
+  pub even-ok : midBit bs ≡ true → parity (plain n s) ≡ true
+  even-ok m = not-false _ (subst (λ (b : Bool). (b && not (parity (plain n s))) ≡ false) m parity-ok)
+
+  pub blocks-ok : (c : ℕ) → c < n → Template depth (r c) (getD chans c [])
+  unfolding checkNewGroup
+  blocks-ok c q =
+      template-ok depth (r c) (getD chans c [])
+      (order-fine (λ c. checkNewBlock depth (r c) (getD chans c [])) c n q (first-fine _ _ (others-fine _ _ (others-fine _ _ (others-fine _ _ fine)))))
+
+  pub none-left : length (r n) ≡ 0
+  unfolding checkNewGroup
+  none-left = eqb-true (length (r n)) 0 (not-false _ (passed _ _ (others-fine _ _ (others-fine _ _ (others-fine _ _ (others-fine _ _ fine))))))
+
+  -- ---- the active samples
+  pub chans-plain : midBit bs ≡ false → chans ≡ plain n s
+  unfolding activeIn
+  chans-plain = ap (λ (t : Bool). cond t (midSide (plain n s)) (plain n s))
+
+  pub chans-both : midBit bs ≡ true → chans ≡ midSide (plain n s)
+  unfolding activeIn
+  chans-both = ap (λ (t : Bool). cond t (midSide (plain n s)) (plain n s))
+
+  -- ---- the new blocks are as long as the template's
+  abbrev B : ℕ → List ℕ
+  B c = newBlock depth (r c) (getD chans c [])
+
+  length-so-far : (c : ℕ) → c ≤ n → length (joined B c) + length (r c) ≡ length bs
+  unfolding joined rest
+  length-so-far zero q = omega arith
+  length-so-far (suc c) q =
+      let i = length-so-far c (omega arith) in
+      let b = blocks-ok c q in
+      let f = new-length depth (r c) (getD chans c []) (b .head) in
+      let z = b .sized in
+      omega (arith, length-append (joined B c) (B c), length-drop (sizeOf depth (r c)) (r c))
+
+  pub new-group-length : length (newGroup depth n bs s) ≡ length bs
+  unfolding newGroup
+  new-group-length = omega (arith, length-so-far n (omega arith), none-left)

@@ -1,0 +1,41 @@
+-- What the host is told of re-encoding, and finds in its bytes: 39, then what re-encoding answers and puts.
+use Prim.Native.Nat.{ℕ, _%_}
+use mathlib.Core.Path.{_≡_, refl, ap, _∙_}
+use mathlib.Core.List.{List}
+use lib.ListN.{length}
+use Rattle.format.specs.Refusals.{_then_}
+use Rattle.format.specs.Reencoding.{refileOf, checkReencodeInto, reencodeOf, reencodeInto}
+use Rattle.format.specs.Boundary.{samplesFrom, result, checkHostReencode, hostReencode, hostReencodeInto}
+use Rattle.format.specs.declared.refusals.Refusal.the-variants.{SampleBytes}
+use Rattle.format.specs.declared.refusals.Checked.the-variants.{No}
+use Rattle.format.specs.declared.settings.PcmSpec.{PcmSpec}
+use Rattle.format.specs.declared.answers.Outcome.the-variants.{Wrote, Refused}
+use Rattle.format.specs.declared.answers.Answer.{Answer}
+use Rattle.ncw.proofs.Writers.{bytes-refused, bytes-fine, refusal-told, refusal-keeps}
+
+module _ (b : List ℕ) (p : PcmSpec) (t : List ℕ) where
+  module _ (part : length b % 4 ≡ 0 → ⊥) where
+    bytes-no : (room : ℕ) → checkHostReencode b p t room ≡ No SampleBytes
+    unfolding checkHostReencode _then_
+    bytes-no room = rw (bytes-refused b part) refl
+
+    pub told-bytes : (room x : ℕ) → x ≡ result (Refused SampleBytes) → x ≡ hostReencode b p t room
+    unfolding hostReencode
+    told-bytes room x e = refusal-told (checkHostReencode b p t room) SampleBytes (bytes-no room) (Wrote (length t)) x e
+
+    pub bytes-keep : (out : List ℕ) → out ≡ hostReencodeInto b p t out
+    unfolding hostReencodeInto
+    bytes-keep out = refusal-keeps (checkHostReencode b p t (length out)) SampleBytes (bytes-no (length out)) (refileOf (samplesFrom b) t) out
+
+  module _ (whole : length b % 4 ≡ 0) where
+    passes : (room : ℕ) → checkHostReencode b p t room ≡ checkReencodeInto p (samplesFrom b) t room
+    unfolding checkHostReencode _then_
+    passes room = rw (bytes-fine b whole) refl
+
+    pub told-reencode : (room : ℕ) (a : Answer) (x : ℕ) → x ≡ result (a .outcome) → a ≡ reencodeOf p (samplesFrom b) t room → x ≡ hostReencode b p t room
+    unfolding reencodeOf hostReencode
+    told-reencode room a x e f = e ∙ ap (λ (y : Answer). result (y .outcome)) f ∙ rw (passes room) refl
+
+    pub put-refile : (out after : List ℕ) → after ≡ reencodeInto p (samplesFrom b) t out → after ≡ hostReencodeInto b p t out
+    unfolding reencodeInto hostReencodeInto
+    put-refile out after e = e ∙ rw (passes (length out)) refl

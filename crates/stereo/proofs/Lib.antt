@@ -1,0 +1,2 @@
+-- a test of all pairs
+pub mod Rows

@@ -1,0 +1,15 @@
+-- `stereo::frames_parity` meets its contract.
+use mathlib.Core.Path.{ap, _∙_}
+use borrow.Author.Needs.{needs}
+use Rattle.format.specs.Encoding.{parity}
+use Rattle.laws.proofs.Stereo.{parity-split}
+use Rattle.stereo.proofs.frames_parity.Statement.{statement}
+use Rattle.stereo.proofs.frames_parity.Tie as tie
+
+pub frames-parity-spec : {M : Type 1} → statement M
+frames-parity-spec =
+    tie.close
+    (tie.spec
+    (λ c κs. search needs)
+    (λ c κs. search needs)
+    (λ c. c .parity .ensures ∙ ap parity (c .before .split .ensures) ∙ parity-split _))

@@ -1,0 +1,146 @@
+-- What the checks of a template answer at each way out, from what the calls' contracts and the tests give.
+use Prim.Native.Nat.{ℕ, _+_, _*_, _/_, _<_, _≤_}
+use mathlib.Core.Path.{_≡_, refl, sym, ap, _∙_}
+use mathlib.Core.Bool.{Bool, true, false}
+use mathlib.Core.List.{List}
+use native.Mathlib.Omega.{arith}
+use lib.IntN.{ℤ}
+use lib.ListN.{length}
+use lib.Dec.{leb}
+use borrow.Author.Tests.{lt-ltb, le-ltb, le-leb, lt-leb}
+use Rattle.format.specs.Lists.{anyBelow}
+use Rattle.format.specs.Header.{isSignature, fieldsOf, groupsOf, entry, group}
+use Rattle.format.specs.Refusals.{refuse, _then_, inOrder}
+use Rattle.format.specs.Opening.{checkOffsets}
+use Rattle.format.specs.Encoding.{groupIn, checkSamples}
+use Rattle.format.specs.Reencoding.{checkReencoder, checkSame, checkBounds, checkRising, checkTemplate, checkNewGroup, checkReencode}
+use Rattle.format.specs.declared.refusals.Refusal.{Refusal}
+use Rattle.format.specs.declared.refusals.Refusal.the-variants.{TooShort, FileSignature, TemplateBounds}
+use Rattle.format.specs.declared.refusals.Checked.{Checked}
+use Rattle.format.specs.declared.refusals.Checked.the-variants.{Fine, No}
+use Rattle.format.specs.declared.settings.PcmSpec.{PcmSpec}
+use Rattle.format.specs.declared.units.Frames.{Frames}
+use Rattle.format.specs.declared.answers.Fields.{Fields}
+use Rattle.laws.proofs.Opened.{data-past, data-within}
+use Rattle.laws.proofs.TemplateFiles.{long-ok}
+use Rattle.header.proofs.Chain.{any-found, any-more}
+
+-- ---- 41: what opening refuses by other numbers
+
+-- a check that refuses by q, whatever it found
+under : Refusal → Checked → Checked
+under q Fine = Fine
+under q (No r) = No q
+
+under-fine : (q : Refusal) (k : Checked) → under q k ≡ Fine → k ≡ Fine
+unfolding under
+under-fine q Fine e = refl
+under-fine q (No r) e = cc
+
+under-four : (q w x y z : Refusal) (a b c d : Bool) → under q (refuse a w then refuse b x then refuse c y then refuse d z) ≡ (refuse a q then refuse b q then refuse c q then refuse d q)
+unfolding under refuse _then_
+under-four q w x y z true b c d = refl
+under-four q w x y z false true c d = refl
+under-four q w x y z false false true d = refl
+under-four q w x y z false false false true = refl
+under-four q w x y z false false false false = refl
+
+module _ (h : Fields) (n : ℕ) where
+  bounds-are : under TemplateBounds (checkOffsets h n) ≡ checkBounds h n
+  unfolding checkOffsets checkBounds
+  bounds-are = under-four _ _ _ _ _ _ _ _ _
+
+  module _ (k : Checked) (says : k ≡ checkOffsets h n) where
+    pub bounds-fine : k ≡ Fine → Fine ≡ checkBounds h n
+    unfolding under
+    bounds-fine e = sym (ap (under TemplateBounds) (sym says ∙ e)) ∙ bounds-are
+
+    pub bounds-no : (r : Refusal) → k ≡ No r → No TemplateBounds ≡ checkBounds h n
+    unfolding under
+    bounds-no r e = sym (ap (under TemplateBounds) (sym says ∙ e)) ∙ bounds-are
+
+  -- the table that is read is there
+  pub table-there : (b : Checked) → b ≡ checkBounds h n → b ≡ Fine → h .table + 4 * (groupsOf (h .frames) + 1) ≤ n
+  table-there b says e =
+      let fine = under-fine TemplateBounds (checkOffsets h n) (bounds-are ∙ sym says ∙ e) in
+      omega (arith, data-past h n fine, data-within h n fine)
+
+-- ---- 42: whether an entry is not below the next
+abbrev pub falls : List ℕ → Fields → ℕ → Bool
+falls t h = λ k. leb (entry t h (k + 1)) (entry t h k)
+
+module _ (t : List ℕ) (h : Fields) (k : ℕ) where
+  -- x is the next entry, y this one
+  module _ (x y : ℕ) (next : x ≡ entry t h (k + 1)) (here : y ≡ entry t h k) where
+    pub falls-here : (n : ℕ) → k < n → x ≤ y → true ≡ anyBelow (falls t h) n
+    falls-here n l d = sym (any-found (falls t h) k n l (le-leb (entry t h (k + 1)) (entry t h k) (omega arith)))
+
+    pub falls-not-yet : anyBelow (falls t h) k ≡ false → y < x → anyBelow (falls t h) (k + 1) ≡ false
+    falls-not-yet none d = any-more (falls t h) k none (lt-leb (entry t h (k + 1)) (entry t h k) (omega arith))
+
+  pub falls-nowhere : (n : ℕ) → anyBelow (falls t h) k ≡ false → k ≤ n → n ≤ k → false ≡ anyBelow (falls t h) n
+  falls-nowhere n none most least =
+      let e : k ≡ n = omega arith in
+      sym (ap (anyBelow (falls t h)) (sym e) ∙ none)
+
+-- ---- 1, 2, 40, 41, 42
+module _ (p : PcmSpec) (s : List ℤ) (t : List ℕ) where
+  pub template-short : length t < 120 → No TooShort ≡ checkTemplate p s t
+  unfolding checkTemplate refuse _then_
+  template-short l = rw (lt-ltb (length t) 120 l)
+
+  module _ (long : 120 ≤ length t) (m : Bool) (signed : m ≡ isSignature t) where
+    pub template-unsigned : m ≡ false → No FileSignature ≡ checkTemplate p s t
+    unfolding checkTemplate refuse _then_
+    template-unsigned e = rw (le-ltb (length t) 120 long, ← signed, e)
+
+    module _ (yes : m ≡ true) (h : Fields) (reads : h ≡ fieldsOf t) (f : Frames) (counts : f .0 ≡ length s / p .channels) (a : Checked) (same : a ≡ checkSame p (f .0) h) where
+      pub template-differs : (r : Refusal) → a ≡ No r → No r ≡ checkTemplate p s t
+      unfolding checkTemplate refuse _then_
+      template-differs r e = rw (le-ltb (length t) 120 long, ← signed, yes, ← reads, ← counts, ← same, e)
+
+      module _ (fine : a ≡ Fine) (b : Checked) (bounds : b ≡ checkBounds h (length t)) where
+        pub template-beyond : (r : Refusal) → b ≡ No r → No r ≡ checkTemplate p s t
+        unfolding checkTemplate refuse _then_
+        template-beyond r e = rw (le-ltb (length t) 120 long, ← signed, yes, ← reads, ← counts, ← same, fine, ← bounds, e)
+
+        pub template-rest : b ≡ Fine → (d : Checked) → d ≡ checkRising t h → d ≡ checkTemplate p s t
+        unfolding checkTemplate refuse _then_
+        template-rest e d rises = rw (le-ltb (length t) 120 long, ← signed, yes, ← reads, ← counts, ← same, fine, ← bounds, e) rises
+
+-- ---- 30 to 33, the template, its groups
+pub spec-passed : (p : PcmSpec) (a : Checked) → a ≡ checkReencoder p → a ≡ Fine → checkReencoder p ≡ Fine
+spec-passed p a spec fine = sym spec ∙ fine
+
+pub samples-passed : (p : PcmSpec) (s : List ℤ) (b : Checked) → b ≡ checkSamples p s → b ≡ Fine → checkSamples p s ≡ Fine
+samples-passed p s b samples fine = sym samples ∙ fine
+
+module _ (p : PcmSpec) (s : List ℤ) (t : List ℕ) (a : Checked) (spec : a ≡ checkReencoder p) where
+  pub spec-refused : (r : Refusal) → a ≡ No r → No r ≡ checkReencode p s t
+  unfolding checkReencode _then_
+  spec-refused r e = rw (← spec, e)
+
+  module _ (fine : a ≡ Fine) (b : Checked) (samples : b ≡ checkSamples p s) where
+    pub samples-refused : (r : Refusal) → b ≡ No r → No r ≡ checkReencode p s t
+    unfolding checkReencode _then_
+    samples-refused r e = rw (← spec, fine, ← samples, e)
+
+    module _ (good : b ≡ Fine) (d : Checked) (template : d ≡ checkTemplate p s t) where
+      pub template-refused : (r : Refusal) → d ≡ No r → No r ≡ checkReencode p s t
+      unfolding checkReencode _then_
+      template-refused r e = rw (← spec, fine, ← samples, good, ← template, e)
+
+      pub groups-rest :
+          d ≡ Fine
+          → (h : Fields) → h ≡ fieldsOf t
+          → (k : Checked) → k ≡ inOrder (λ g. checkNewGroup (h .depth) (h .channels) (group t h g) (groupIn (h .channels) s g)) (groupsOf (h .frames))
+          → k ≡ checkReencode p s t
+      unfolding checkReencode _then_
+      groups-rest passes h reads k e = rw (← spec, fine, ← samples, good, ← template, passes, ← reads) e
+
+module _ (p : PcmSpec) (s : List ℤ) (t : List ℕ) (d : Checked) (template : d ≡ checkTemplate p s t) (passes : d ≡ Fine) where
+  pub template-passed : checkTemplate p s t ≡ Fine
+  template-passed = sym template ∙ passes
+
+  pub template-long : 32 ≤ length t
+  template-long = omega (arith, long-ok p s t template-passed)

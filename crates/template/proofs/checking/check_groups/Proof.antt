@@ -1,0 +1,87 @@
+use Prim.Native.Nat.{_-_, _≤_}
+use mathlib.Core.Path.{_≡_}
+use native.Mathlib.Omega.{arith}
+use borrow.Author.Needs.{needs}
+use Rattle.format.specs.Header.{groupsOf, group}
+use Rattle.format.specs.Refusals.{inOrder}
+use Rattle.format.specs.Encoding.{groupIn}
+use Rattle.format.specs.Reencoding.{checkNewGroup}
+use Rattle.format.specs.declared.refusals.Checked.the-variants.{Fine}
+use Rattle.lent.specs.Lent.{lentOf}
+use Rattle.laws.proofs.Reading.{order-more}
+use Rattle.laws.proofs.Reading.{order-none, order-ends, order-whole}
+use Rattle.template.proofs.Groups.{some-channel, few-channels, some-bits, few-bits, entry-there, entry-next, part-rises, part-within, frames-some, frames-inside, part-checked}
+use Rattle.template.proofs.checking.check_groups.Statement.{statement}
+use Rattle.template.proofs.checking.check_groups.Tie as tie
+
+abbrev Inv-loop : tie.InvT-loop
+Inv-loop which words bytes p t h start groups g₀ g =
+    (groups ≡ groupsOf (h .frames))
+    × (g ≤ groups)
+    × (inOrder (λ g. checkNewGroup (h .depth) (h .channels) (group t h g) (groupIn (h .channels) (lentOf which words bytes) g)) g ≡ Fine)
+
+abbrev μ-loop : tie.MeasureT-loop
+μ-loop which words bytes p t h start groups g₀ g = groups - g
+
+loop-holds : tie.Need-loop-holds Inv-loop μ-loop
+loop-holds c = (search needs, search needs, order-none _)
+
+entry-at-requires : tie.Need-entry-at-requires Inv-loop μ-loop
+entry-at-requires c κs = search entry-there
+
+entry-at-requires-2 : tie.Need-entry-at-requires-2 Inv-loop μ-loop
+entry-at-requires-2 c κs = search entry-next
+
+sub-check-new-group : tie.Need-sub-check-new-group Inv-loop μ-loop
+sub-check-new-group c = search part-rises
+
+part-check-new-group-start : tie.Need-part-check-new-group-start Inv-loop μ-loop
+part-check-new-group-start c = search part-rises
+
+part-check-new-group-end : tie.Need-part-check-new-group-end Inv-loop μ-loop
+part-check-new-group-end c = search part-within
+
+check-new-group-requires : tie.Need-check-new-group-requires Inv-loop μ-loop
+check-new-group-requires c κs = (search frames-some, search needs, search some-channel, search few-channels, search some-bits, search few-bits, search frames-inside)
+
+returns : tie.Need-returns Inv-loop μ-loop
+returns c = search (order-ends, part-checked)
+
+loop-again : tie.Need-loop-again Inv-loop μ-loop
+loop-again c =
+    let i = c .before .before .before .before .before .before .before .before .loop .inv in
+    (search needs, search needs, order-more _ _ (i .2) (search part-checked))
+
+returns-2 : tie.Need-returns-2 Inv-loop μ-loop
+returns-2 c = order-whole _ _ _ _ (c .before .loop .inv .0) (c .before .loop .inv .2) (omega arith)
+
+pub check-groups-spec : {M : Type 1} → statement M
+check-groups-spec =
+    tie.close
+    (tie.spec
+    Inv-loop
+    μ-loop
+    (λ c. search needs)
+    (λ c κs. search needs)
+    loop-holds
+    entry-at-requires
+    (λ c. search needs)
+    (λ c. search needs)
+    (λ c. search needs)
+    entry-at-requires-2
+    (λ c. search needs)
+    (λ c. search needs)
+    (λ c κs. search needs)
+    (λ c. search needs)
+    (λ c. search needs)
+    sub-check-new-group
+    part-check-new-group-start
+    part-check-new-group-end
+    check-new-group-requires
+    (λ c. search needs)
+    returns
+    (λ c. search needs)
+    (λ c. search needs)
+    (λ c. search needs)
+    loop-again
+    returns-2)

@@ -1,0 +1,160 @@
+// Every refusal but 50, in order.
+use format::Checked;
+use format::Depth;
+use format::Fields;
+use format::PcmSpec;
+use format::Refusal;
+use lent::Container;
+ghost use mathlib.Core.Path.{_≡_};
+ghost use Prim.Native.Nat.{_+_, _*_, _≤_};
+ghost use lib.Dec.{leb};
+ghost use lib.ListN.{length};
+ghost use Rattle.format.specs.Lists.{anyBelow};
+ghost use Rattle.format.specs.Header.{fieldsOf, groupsOf, entry, group};
+ghost use Rattle.format.specs.Refusals.{inOrder};
+ghost use Rattle.format.specs.Encoding.{groupIn, checkSamples};
+ghost use Rattle.format.specs.Reencoding.{checkReencoder, checkNewGroup, checkSame, checkBounds, checkRising, checkTemplate, checkReencode};
+ghost use Rattle.format.specs.declared.refusals.Checked.the-variants.{Fine};
+ghost use Rattle.lent.specs.Lent.{lentOf};
+
+// 40.
+fn check_same(p: PcmSpec, frames: u32, h: Fields) -> Checked
+    ensures { λ r. ⌜ r ≡ checkSame p frames h ⌝ }
+{
+    if h.channels != p.channels {
+        return Checked::No(Refusal::TemplateDiffers);
+    }
+    if h.depth != p.bits_per_sample {
+        return Checked::No(Refusal::TemplateDiffers);
+    }
+    if h.rate != p.sample_rate {
+        return Checked::No(Refusal::TemplateDiffers);
+    }
+    if h.frames != frames {
+        return Checked::No(Refusal::TemplateDiffers);
+    }
+    Checked::Fine
+}
+
+// 41: what opening refuses by 13 to 15 and 1.
+fn check_bounds(h: Fields, n: usize) -> Checked
+    ensures { λ r. ⌜ r ≡ checkBounds h n ⌝ }
+{
+    match header::check_offsets(h, n) {
+        Checked::Fine => Checked::Fine,
+        Checked::No(_) => Checked::No(Refusal::TemplateBounds),
+    }
+}
+
+// Whether an entry of the first n is not below the next.
+fn any_falls(t: &[u8], h: Fields, n: u32) -> bool
+    requires { ⌜ (n ≤ 8388608) × (h .table + 4 * (n + 1) ≤ length (now t)) ⌝ }
+    ensures { λ r. ⌜ r ≡ anyBelow (λ k. leb (entry (now (t .entry)) h (k + 1)) (entry (now (t .entry)) h k)) n ⌝ }
+{
+    let mut k: u32 = 0;
+    while k < n {
+        if header::entry_at(t, h, k + 1) <= header::entry_at(t, h, k) {
+            return true;
+        }
+        k += 1;
+    }
+    false
+}
+
+// 42.
+fn check_rising(t: &[u8], h: Fields) -> Checked
+    requires { ⌜ h .table + 4 * (groupsOf (h .frames) + 1) ≤ length (now t) ⌝ }
+    ensures { λ r. ⌜ r ≡ checkRising (now (t .entry)) h ⌝ }
+{
+    let groups = header::groups_of(h.frames);
+    if header::entry_at(t, h, 0) != 0 {
+        return Checked::No(Refusal::TemplateOffsets);
+    }
+    if header::entry_at(t, h, groups) != h.size {
+        return Checked::No(Refusal::TemplateOffsets);
+    }
+    if any_falls(t, h, groups) {
+        return Checked::No(Refusal::TemplateOffsets);
+    }
+    Checked::Fine
+}
+
+// 1 (under 120 bytes), 2, 40, 41, 42.
+fn check_template(which: Container, words: &[i32], bytes: &[u8], p: PcmSpec, t: &[u8]) -> Checked
+    requires { ⌜ (checkReencoder p ≡ Fine) × (checkSamples p (lentOf which (now words) (now bytes)) ≡ Fine) ⌝ }
+    ensures { λ r. ⌜ r ≡ checkTemplate p (lentOf which (now (words .entry)) (now (bytes .entry))) (now (t .entry)) ⌝ }
+{
+    if t.len() < Depth::HEADER_SIZE {
+        return Checked::No(Refusal::TooShort);
+    }
+    if header::is_signature(t) {} else {
+        return Checked::No(Refusal::FileSignature);
+    }
+    let h = header::read_fields(t);
+    let frames = pcm::frames_of(which, words, bytes, p.channels);
+    if let Checked::No(r) = check_same(p, frames.0, h) {
+        return Checked::No(r);
+    }
+    if let Checked::No(r) = check_bounds(h, t.len()) {
+        return Checked::No(r);
+    }
+    check_rising(t, h)
+}
+
+// Each group in order.
+fn check_groups(
+    which: Container,
+    words: &[i32],
+    bytes: &[u8],
+    p: PcmSpec,
+    t: &[u8],
+    h: Fields,
+) -> Checked
+    requires { ⌜ (checkReencoder p ≡ Fine) × (checkSamples p (lentOf which (now words) (now bytes)) ≡ Fine) × (checkTemplate p (lentOf which (now words) (now bytes)) (now t) ≡ Fine) × (h ≡ fieldsOf (now t)) ⌝ }
+    ensures { λ r. ⌜ r ≡ inOrder (λ g. checkNewGroup (h .depth) (h .channels) (group (now (t .entry)) h g) (groupIn (h .channels) (lentOf which (now (words .entry)) (now (bytes .entry))) g)) (groupsOf (h .frames)) ⌝ }
+{
+    let start = h.start as usize;
+    let groups = header::groups_of(h.frames);
+    let mut g: u32 = 0;
+    while g < groups {
+        let a = start + header::entry_at(t, h, g) as usize;
+        let e = start + header::entry_at(t, h, g + 1) as usize;
+        let n = group::active(h.frames, g);
+        if let Checked::No(r) = template_group::check_new_group(
+            which,
+            words,
+            bytes,
+            512 * g as usize,
+            n,
+            p.channels,
+            p.bits_per_sample,
+            &t[a..e],
+        ) {
+            return Checked::No(r);
+        }
+        g += 1;
+    }
+    Checked::Fine
+}
+
+// 30 to 33, then the template, then its groups.
+pub fn check_reencode(
+    which: Container,
+    words: &[i32],
+    bytes: &[u8],
+    p: PcmSpec,
+    t: &[u8],
+) -> Checked
+    ensures { λ r. ⌜ r ≡ checkReencode p (lentOf which (now (words .entry)) (now (bytes .entry))) (now (t .entry)) ⌝ }
+{
+    if let Checked::No(r) = pcm::check_reencoder(p) {
+        return Checked::No(r);
+    }
+    if let Checked::No(r) = pcm::check_samples(which, words, bytes, p) {
+        return Checked::No(r);
+    }
+    if let Checked::No(r) = check_template(which, words, bytes, p, t) {
+        return Checked::No(r);
+    }
+    check_groups(which, words, bytes, p, t, header::read_fields(t))
+}

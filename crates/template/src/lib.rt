@@ -1,0 +1,49 @@
+// Re-encoding: encode_pcm_with_template of writer.rs. Every refusal is found first; then the file is written.
+mod checking;
+mod writing;
+
+use crate::checking::check_reencode;
+use crate::writing::write_file;
+use format::Answer;
+use format::Checked;
+use format::Outcome;
+use format::PcmSpec;
+use format::Refusal;
+use lent::Container;
+ghost use mathlib.Core.Path.{_≡_};
+ghost use lib.ListN.{length};
+ghost use Rattle.format.specs.Reencoding.{reencodeOf, reencodeInto};
+ghost use Rattle.lent.specs.Lent.{lentOf};
+
+// Re-encoding from either container.
+pub fn reencode_lent(
+    which: Container,
+    words: &[i32],
+    bytes: &[u8],
+    p: PcmSpec,
+    template: &[u8],
+    out: &mut [u8],
+) -> Answer
+    ensures answers { λ r. ⌜ r ≡ reencodeOf p (lentOf which (now (words .entry)) (now (bytes .entry))) (now (template .entry)) (length (now (out .entry))) ⌝ }
+    ensures puts { λ _. ⌜ now (out .exit) ≡ reencodeInto p (lentOf which (now (words .entry)) (now (bytes .entry))) (now (template .entry)) (now (out .entry)) ⌝ }
+{
+    if let Checked::No(r) = check_reencode(which, words, bytes, p, template) {
+        return Answer::refused(r);
+    }
+    if out.len() < template.len() {
+        return Answer::refused(Refusal::OutputTooShort);
+    }
+    write_file(which, words, bytes, p, template, out);
+    Answer::of(Outcome::Wrote(template.len() as u64))
+}
+
+pub fn encode_pcm_with_template(
+    samples: &[i32],
+    spec: PcmSpec,
+    template: &[u8],
+    out: &mut [u8],
+) -> Answer
+    ensures { λ r. ⌜ (r ≡ reencodeOf spec (now (samples .entry)) (now (template .entry)) (length (now (out .entry)))) × (now (out .exit) ≡ reencodeInto spec (now (samples .entry)) (now (template .entry)) (now (out .entry))) ⌝ }
+{
+    reencode_lent(Container::Words, samples, &[], spec, template, out)
+}

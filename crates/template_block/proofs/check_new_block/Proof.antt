@@ -1,0 +1,59 @@
+-- `template_block::check_new_block` meets its contract: a law for each way out.
+use borrow.Author.Needs.{needs}
+use Rattle.block.proofs.Checking.{known-by}
+use Rattle.template_block.proofs.Blocks.{no-header, no-mark, no-bits, one-bit, other-flags, bits-beyond, no-values, fit-says, coding-known, known-1, known-32}
+use Rattle.template_block.proofs.check_new_block.Statement.{statement}
+use Rattle.template_block.proofs.check_new_block.Tie as tie
+
+returns : tie.Need-returns
+returns c = search (needs, no-header)
+
+returns-2 : tie.Need-returns-2
+returns-2 c = search (needs, no-mark)
+
+returns-3 : tie.Need-returns-3
+returns-3 c = search (needs, no-bits)
+
+returns-4 : tie.Need-returns-4
+returns-4 c = search (needs, one-bit)
+
+returns-5 : tie.Need-returns-5
+returns-5 c = search (needs, other-flags)
+
+returns-6 : tie.Need-returns-6
+returns-6 c = search (needs, bits-beyond)
+
+returns-7 : tie.Need-returns-7
+returns-7 c = search (needs, no-values, known-by)
+
+new-values-requires : tie.Need-new-values-requires
+new-values-requires c κs =
+    (record { some = search needs; most = search needs; header = search needs; known = search (coding-known, known-by); run = search needs }, search needs, search needs)
+
+check-fit-requires : tie.Need-check-fit-requires
+check-fit-requires c κs = search (needs, known-1, known-32, known-by)
+
+returns-8 : tie.Need-returns-8
+returns-8 c = search (needs, fit-says, known-by)
+
+pub check-new-block-spec : {M : Type 1} → statement M
+check-new-block-spec =
+    tie.close
+    (tie.spec
+    returns
+    (λ c κs. search needs)
+    returns-2
+    (λ c κs. search needs)
+    returns-3
+    returns-4
+    (λ c κs. search needs)
+    returns-5
+    (λ c κs. search needs)
+    (λ c. search needs)
+    returns-6
+    (λ c κs. search needs)
+    returns-7
+    new-values-requires
+    (λ c κs. search needs)
+    check-fit-requires
+    returns-8)

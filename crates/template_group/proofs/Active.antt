@@ -1,0 +1,39 @@
+-- The active samples of a group's channels are the first n of the padded ones, as left and right and as mid and side.
+use Prim.Native.Nat.{ℕ, zero, suc, _+_, _*_, _≤_, _<_}
+use mathlib.Core.Path.{_≡_, sym, ap, ap₂, _∙_}
+use mathlib.Core.List.{List, []}
+use native.Mathlib.Omega.{arith}
+use lib.ListN.{length, getD, take}
+use lib.Seq.{take-at}
+use lib.IntN.{ℤ}
+use Rattle.format.specs.Lists.{pairwise}
+use Rattle.format.specs.Encoding.{channel, plain, padded, mid, side, midSide}
+use Rattle.lent.specs.Lent.{framesFrom}
+use Rattle.lent.proofs.Taken.{frames-length}
+use Rattle.laws.proofs.Channels.{channel-length, plain-is}
+use Rattle.laws.proofs.Halves.{take-pairwise}
+use Rattle.template_group.proofs.Apart.{Apart}
+
+take-padded : (n : ℕ) (xs : List ℤ) → length xs ≡ n → take n (padded xs) ≡ xs
+unfolding padded
+take-padded n xs l = take-at xs _ n l
+
+-- a are the padded channels of the n frames from `first` on
+module _ (channels first n : ℕ) (s : List ℤ) (a : List (List ℤ)) (some : 1 ≤ channels) (room : (first + n) * channels ≤ length s)
+    (are : Apart channels first n s a) where
+  pub active-plain : (c : ℕ) → c < channels → take n (getD a c []) ≡ getD (plain channels (framesFrom channels first n s)) c []
+  active-plain c h =
+      let fs = framesFrom channels first n s in
+      let l = frames-length channels first n s room in
+      ap (take n) (are c h) ∙ take-padded n (channel channels fs c) (channel-length channels n some fs l c) ∙ sym (plain-is channels n some fs l c h)
+
+  module _ (two : channels ≡ 2) where
+    pairs : (f : ℤ → ℤ → ℤ) → take n (pairwise f (getD a 0 []) (getD a 1 []))
+        ≡ pairwise f (getD (plain channels (framesFrom channels first n s)) 0 []) (getD (plain channels (framesFrom channels first n s)) 1 [])
+    pairs f = take-pairwise f n (getD a 0 []) (getD a 1 []) ∙ ap₂ (pairwise f) (active-plain 0 (omega arith)) (active-plain 1 (omega arith))
+
+    pub active-both : (c : ℕ) → c < channels → take n (getD (midSide a) c []) ≡ getD (midSide (plain channels (framesFrom channels first n s))) c []
+    unfolding midSide
+    active-both zero h = pairs mid
+    active-both (suc zero) h = pairs side
+    active-both (suc (suc c)) h = absurd (omega arith)

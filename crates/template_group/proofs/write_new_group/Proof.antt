@@ -1,0 +1,47 @@
+-- `template_group::write_new_group` meets its contract.
+use borrow.Author.Needs.{needs}
+use Rattle.laws.proofs.Templates.{head-ok}
+use Rattle.template_group.proofs.Writing.{order-ok, group-written, as-plain, as-both}
+use Rattle.template_group.proofs.write_new_group.Statement.{statement}
+use Rattle.template_group.proofs.write_new_group.Tie as tie
+
+write-channels-requires : tie.Need-write-channels-requires
+write-channels-requires c κs =
+    let b = c .before .before .before .before .before .before .before .before in
+    let o = order-ok _ _ _ _ (b .pre .1 .0) (b .args .n) (c .mid-side .result) (search (needs, as-both)) in
+    search (needs, o)
+
+write-channels-requires-2 : tie.Need-write-channels-requires-2
+write-channels-requires-2 c κs =
+    let g = c .before .before .before in
+    let b = g .before .before .before .before in
+    let o = order-ok _ _ _ _ (b .pre .1 .0) (b .args .n) (g .channels-of .result) (search (needs, as-plain)) in
+    search (needs, o)
+
+returns : tie.Need-returns
+returns c =
+    let w = c .before .before in
+    let g = w .before in
+    let b = g .before .before .before .before .before .before .before .before in
+    group-written _ _ _ _ (b .pre .1 .0) (b .args .n) (g .mid-side .result) (search (needs, as-both)) _ _ (w .write-channels .ensures)
+
+returns-2 : tie.Need-returns-2
+returns-2 c =
+    let w = c .before .before in
+    let g = w .before .before .before .before in
+    let b = g .before .before .before .before in
+    group-written _ _ _ _ (b .pre .1 .0) (b .args .n) (g .channels-of .result) (search (needs, as-plain)) _ _ (w .write-channels2 .ensures)
+
+pub write-new-group-spec : {M : Type 1} → statement M
+write-new-group-spec =
+    tie.close
+    (tie.spec
+    (λ c κs. search needs)
+    (λ c κs. search (needs, head-ok))
+    (λ c κs. search needs)
+    write-channels-requires
+    write-channels-requires-2
+    (λ c. search needs)
+    returns
+    (λ c. search needs)
+    returns-2)
