@@ -22,12 +22,12 @@ use Rattle.laws.proofs.Wrap.{wrap-fits, plus-inj}
 use Rattle.laws.proofs.Up.{up, up-inj, mag-up, up-low, up-high, up-add, up-sub, up-half}
 
 -- the magnitude of a sum and of a difference
-pub mag-add : (H : ℕ) (a b : ℤ) → H < 2 ^ 38 → mag a < H → mag b < H → mag (a +ℤ b) < H + H
+mag-add : (H : ℕ) (a b : ℤ) → H < 2 ^ 38 → mag a < H → mag b < H → mag (a +ℤ b) < H + H
 mag-add H a b h f g =
     mag-up (H + H) (a +ℤ b) (omega arith) (omega (arith, up-add a b (omega arith) (omega arith), up-low H a f, up-low H b g))
     (omega (arith, up-add a b (omega arith) (omega arith), up-high H a f, up-high H b g))
 
-pub mag-sub : (H : ℕ) (a b : ℤ) → H < 2 ^ 38 → mag a < H → mag b < H → mag (a -ℤ b) < H + H
+mag-sub : (H : ℕ) (a b : ℤ) → H < 2 ^ 38 → mag a < H → mag b < H → mag (a -ℤ b) < H + H
 mag-sub H a b h f g =
     mag-up (H + H) (a -ℤ b) (omega arith) (omega (arith, up-sub a b (omega arith) (omega arith), up-low H a f, up-high H b g))
     (omega (arith, up-sub a b (omega arith) (omega arith), up-high H a f, up-low H b g))
@@ -77,7 +77,7 @@ module _ (H : ℕ) (top : H ≤ 2 ^ 31) (l r : ℤ) (f : mag l < H) (g : mag r <
       let p = mag-add (2 ^ 31) l r (omega arith) (omega arith) (omega arith) in
       omega (arith, up-half (l +ℤ r) (omega arith) even)
 
-  side-twice : up (side l r) + up (side l r) + up r ≡ up l + 2 ^ 41
+  pub side-twice : up (side l r) + up (side l r) + up r ≡ up l + 2 ^ 41
   unfolding side
   side-twice =
       let a = up-add l r (omega arith) (omega arith) in
@@ -85,6 +85,13 @@ module _ (H : ℕ) (top : H ≤ 2 ^ 31) (l r : ℤ) (f : mag l < H) (g : mag r <
       let q = mag-sub (2 ^ 31) l r (omega arith) (omega arith) (omega arith) in
       let e = even in
       omega (arith, up-half (l -ℤ r) (omega arith) (omega arith))
+
+  -- mid is what side leaves of l
+  pub less-side : l -ℤ side l r ≡ mid l r
+  less-side =
+      let a = up-sub l (side l r) (omega arith) (omega (arith, low-side)) in
+      up-inj (l -ℤ side l r) (mid l r) (omega (arith, mag-sub (2 ^ 31) l (side l r) (omega arith) (omega arith) (omega (arith, low-side)))) (omega (arith, low-mid))
+      (omega (arith, mid-twice, side-twice))
 
   pub left-back : left Pcm (mid l r) (side l r) ≡ l
   unfolding left

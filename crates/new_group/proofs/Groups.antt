@@ -17,7 +17,7 @@ use Rattle.format.specs.declared.settings.StereoMode.{StereoMode}
 use Rattle.format.specs.declared.settings.StereoMode.the-variants.{Auto, Direct, MidSide}
 use Rattle.lent.specs.Lent.{framesFrom}
 use Rattle.lent.proofs.Taken.{frames-length}
-use Rattle.laws.proofs.Tests.{never}
+use Rattle.laws.proofs.Tests.{never, and-left}
 use Rattle.laws.proofs.Each.{each-from}
 use Rattle.laws.proofs.Signs.{Holds, AllHold, every-holds, holds-every}
 use Rattle.laws.proofs.Channels.{Level, padded-holds, split-level}
@@ -38,6 +38,9 @@ pub sizes-are : (depth : ℕ) (a b : List (List ℤ)) (x y : ℕ) → b ≡ midS
 sizes-are depth a b x y e f g = ap₂ (λ (m n : ℕ). record { direct = m; «mid_side» = n }) (f 0) (g 1 ∙ ap (λ (c : List (List ℤ)). length (blocks depth 1 c)) e)
 
 -- ---- what a mode takes
+pub parity-known : (a : List (List ℤ)) (t : Bool) → t ≡ parity a → t ≡ true → parity a ≡ true
+parity-known a t even h = sym even ∙ h
+
 module _ (depth : ℕ) (a : List (List ℤ)) (t : Bool) (even : t ≡ parity a) where
   pub auto-smaller : (s : Sizes) → s ≡ sizesOf depth a → t ≡ true → ltb (s .«mid_side») (s .direct) ≡ autoTakes depth a
   unfolding autoTakes
@@ -53,6 +56,13 @@ unfolding takesOf autoTakes takesMid
 takes-are Direct depth s = refl
 takes-are MidSide depth s = refl
 takes-are Auto depth s = ap (λ (b : Bool). b && ltb (length (blocks depth 1 (midSide (split 2 s)))) (length (blocks depth 0 (split 2 s)))) (parity-split s)
+
+-- mid/side is taken only at equal parity, if MidSide comes only with it
+takes-even : (mode : StereoMode) (depth : ℕ) (a : List (List ℤ)) → (isMidSide mode ≡ true → parity a ≡ true) → takesOf mode depth a ≡ true → parity a ≡ true
+unfolding takesOf autoTakes isMidSide
+takes-even Direct depth a even h = never (sym h)
+takes-even MidSide depth a even h = even refl
+takes-even Auto depth a even h = and-left _ _ h
 
 -- other than two channels are direct
 not-taken : (mode : StereoMode) (n depth : ℕ) (s : List ℤ) → (n ≡ 2 → ⊥) → (isMidSide mode && not (eqb n 2)) ≡ false → takesMid mode n depth s ≡ false
@@ -93,7 +103,7 @@ module _ (p : PcmSpec) (mode : StereoMode) (first n : ℕ) (s : List ℤ) (w : W
 
   pub as-direct : Writable p Direct first n s
   unfolding isMidSide
-  as-direct = record { some = w .some; most = w .most; inside = w .inside; channels = w .channels; low = w .low; high = w .high; hold = w .hold; stereo = refl }
+  as-direct = record { some = w .some; most = w .most; inside = w .inside; channels = w .channels; low = w .low; high = w .high; hold = w .hold; stereo = refl; even = λ e. never (sym e) }
 
   -- two channels a; t is what the mode takes
   module _ (two : C ≡ 2) where
@@ -113,7 +123,13 @@ module _ (p : PcmSpec) (mode : StereoMode) (first n : ℕ) (s : List ℤ) (w : W
       pub mid-holds : (b : List (List ℤ)) → b ≡ midSide a → (c : ℕ) → c < 2 → every (holds depth) (getD b c []) ≡ true
       mid-holds b e c h = rw e (holds-every depth _ (both-level depth C 512 (w .high) two a level .hold c (omega arith)))
 
+      chans-even : isMidSide mode ≡ true → parity a ≡ true
+      chans-even e = ap parity are ∙ parity-split (framesFrom 2 first n s) ∙ (rw two at (w .even e))
+
       module _ (t : Bool) (takes : t ≡ takesOf mode depth a) where
+        pub taken-even : t ≡ true → parity a ≡ true
+        taken-even h = takes-even mode depth a chans-even (sym takes ∙ h)
+
         taken : takesMid mode C depth frames ≡ t
         taken = ap (λ (k : ℕ). takesMid mode k depth (framesFrom k first n s)) two ∙ sym (takes-are mode depth (framesFrom 2 first n s)) ∙ ap (takesOf mode depth) (sym are) ∙ sym takes
 

@@ -8,9 +8,10 @@ use lib.IntN.{ℤ}
 use lib.Dec.{eqb}
 use Rattle.format.specs.Lists.{every}
 use Rattle.format.specs.Numbers.{holds}
-use Rattle.format.specs.Encoding.{isMidSide}
+use Rattle.format.specs.Encoding.{plain, parity, isMidSide}
 use Rattle.format.specs.declared.settings.PcmSpec.{PcmSpec}
 use Rattle.format.specs.declared.settings.StereoMode.{StereoMode}
+use Rattle.lent.specs.Lent.{framesFrom}
 
 -- n frames, from the frame `first` on, of samples that can be written so
 pub record Writable (p : PcmSpec) (mode : StereoMode) (first n : ℕ) (s : List ℤ) : Type 0 where
@@ -22,3 +23,5 @@ pub record Writable (p : PcmSpec) (mode : StereoMode) (first n : ℕ) (s : List 
   pub high : p .«bits_per_sample» ≤ 32
   pub hold : every (holds (p .«bits_per_sample»)) s ≡ true
   pub stereo : (isMidSide mode && not (eqb (p .channels) 2)) ≡ false
+  -- MidSide: every frame has equal parity
+  pub even : isMidSide mode ≡ true → parity (plain (p .channels) (framesFrom (p .channels) first n s)) ≡ true

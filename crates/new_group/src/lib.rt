@@ -9,7 +9,7 @@ ghost use Prim.Native.Nat.{ℕ, _+_, _*_, _<_, _≤_};
 ghost use lib.ListN.{length, getD};
 ghost use Rattle.format.specs.Lists.{over, every};
 ghost use Rattle.format.specs.Numbers.{holds};
-ghost use Rattle.format.specs.Encoding.{split, blocks, groupOf};
+ghost use Rattle.format.specs.Encoding.{split, blocks, parity, groupOf};
 ghost use Rattle.format.specs.declared.settings.StereoMode.the-variants.{Direct};
 ghost use Rattle.lent.specs.Lent.{lentOf, framesFrom};
 ghost use Rattle.new_group.specs.Choice.{sizesOf, autoTakes, takesOf};
@@ -30,7 +30,7 @@ fn pair_size(a: [[i32; 512]; 2], depth: u16) -> usize
 
 // What Auto weighs.
 pub fn both_sizes(a: [[i32; 512]; 2], depth: u16) -> Sizes
-    requires { ⌜ depth ≤ 32 ⌝ }
+    requires { ⌜ (depth ≤ 32) × (parity a ≡ true) ⌝ }
     ensures { λ r. ⌜ r ≡ sizesOf depth a ⌝ }
 {
     Sizes {

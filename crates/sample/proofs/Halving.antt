@@ -1,80 +1,90 @@
--- Half of an exact sum or difference of two samples, by way of 64 bits, and the parity of a sample by its bits.
-use mathlib.Core.Path.{_≡_, ap, ap₂, _∙_}
-use Prim.Native.Nat.{ℕ, _%_, _^_}
+-- Half of an exact sum or difference of two samples of equal parity, by their halves, and the parity of a sample by its bits.
+use mathlib.Core.Path.{_≡_, refl, ap, ap₂, _∙_}
+use mathlib.Core.Bool.{Bool, true, false, cond}
+use Prim.Native.Nat.{ℕ, suc, _+_, _-_, _/_, _%_, _^_, _<_}
 use native.Mathlib.Omega.{arith}
 use lib.IntN.{ℤ, pos, negsuc, natAbs, _+ℤ_, _-ℤ_}
-use lib.Signed.{quotZ}
-use lib.Dec.{eqb}
+use lib.Signed.{mag}
+use lib.Dec.{eqb, ltb}
 use mir.Syntax.{w32, w64}
 use mir.Val.{SFits, toZ, ofZ}
 use mir.ValLaws.{toZ-ofZ}
+use borrow.Author.Tests.{ltb-true}
 use Rattle.format.specs.Numbers.{codeOf}
 use Rattle.format.specs.Encoding.{mid, side, equalParity}
-use Rattle.laws.proofs.Halves.{mag-add, mag-sub, mid-range, side-range}
+use Rattle.laws.proofs.Up.{up, up-inj, mag-up, up-sub}
+use Rattle.laws.proofs.Halves.{mid-range, side-range, side-twice, less-side}
+use Rattle.sample.specs.Raised.{raised}
+use Rattle.sample.proofs.Words.{given, called}
 
+-- ---- 2^31 more than a sample, by way of 64 bits
 pub wide-fits : {z : ℤ} → SFits w32 z → SFits w64 (toZ w32 (ofZ w32 z))
 wide-fits {z} f = rw (toZ-ofZ w32 z f) (record { sfits = omega (arith, f .sfits) })
 
--- a sample as the 64 bits read it
-abbrev wide : ℤ → ℤ
-wide z = toZ w64 (ofZ w64 (toZ w32 (ofZ w32 z)))
+pub raised-under : (z : ℤ) → SFits w32 z → raised z < 2 ^ 32
+raised-under (pos n) f = omega (arith, f .sfits)
+raised-under (negsuc n) f = omega arith
 
-wide-is : {z : ℤ} → SFits w32 z → wide z ≡ z
-wide-is {z} f = toZ-ofZ w64 (toZ w32 (ofZ w32 z)) (wide-fits f) ∙ toZ-ofZ w32 z f
+raise : (z : ℤ) → SFits w32 z → z +ℤ pos 2147483648 ≡ pos (raised z)
+raise (pos n) f = refl
+raise (negsuc n) f = by (ltb 2147483648 (suc n)) refl
+  where
+    by : (b : Bool) → ltb 2147483648 (suc n) ≡ b → cond b (negsuc (suc n - suc 2147483648)) (pos (2147483648 - suc n)) ≡ pos (2147483648 - suc n)
+    by true e = absurd (omega (arith, ltb-true 2147483648 (suc n) e, f .sfits))
+    by false e = refl
 
--- l and r whose sum or difference, op, 64 bits hold, and its half 32
-pub record Halved (op : ℤ → ℤ → ℤ) (l r : ℤ) : Type 0 where
-  pub first : SFits w32 l
-  pub second : SFits w32 r
-  pub whole : SFits w64 (op l r)
-  pub half : SFits w32 (quotZ (op l r) (pos 2))
+module _ {z : ℤ} (f : SFits w32 z) where
+  sum-is : toZ w64 (ofZ w64 (toZ w32 (ofZ w32 z))) +ℤ pos 2147483648 ≡ pos (raised z)
+  sum-is = ap (λ (x : ℤ). x +ℤ pos 2147483648) (toZ-ofZ w64 (toZ w32 (ofZ w32 z)) (wide-fits f) ∙ toZ-ofZ w32 z f) ∙ raise z f
 
-module _ {l r : ℤ} (f : SFits w32 l) (g : SFits w32 r) where
-  pub halved-sum : Halved _+ℤ_ l r
-  unfolding mid
-  halved-sum =
-      record {
-        first = f;
-        second = g;
-        whole = record { sfits = omega (arith, mag-add (2 ^ 31) l r (omega arith) (f .sfits) (g .sfits)) };
-        half = record { sfits = mid-range (2 ^ 31) (omega arith) l r (f .sfits) (g .sfits) };
-      }
+  pub sum-fits : SFits w64 (toZ w64 (ofZ w64 (toZ w32 (ofZ w32 z))) +ℤ pos 2147483648)
+  sum-fits = rw sum-is (record { sfits = omega (arith, raised-under z f) })
 
-  pub halved-difference : Halved _-ℤ_ l r
-  unfolding side
-  halved-difference =
-      record {
-        first = f;
-        second = g;
-        whole = record { sfits = omega (arith, mag-sub (2 ^ 31) l r (omega arith) (f .sfits) (g .sfits)) };
-        half = record { sfits = side-range (2 ^ 31) (omega arith) l r (f .sfits) (g .sfits) };
-      }
+  pub sum-back : toZ w64 (ofZ w64 (toZ w64 (ofZ w64 (toZ w32 (ofZ w32 z))) +ℤ pos 2147483648)) ≡ pos (raised z)
+  sum-back = toZ-ofZ w64 _ sum-fits ∙ sum-is
 
-module _ (op : ℤ → ℤ → ℤ) {l r : ℤ} (h : Halved op l r) where
-  exact : op (wide l) (wide r) ≡ op l r
-  exact = ap₂ op (wide-is (h .first)) (wide-is (h .second))
+-- ---- side and mid of two samples of equal parity
+raised-up : (z : ℤ) → SFits w32 z → raised z + 2 ^ 40 ≡ up z + 2 ^ 31
+raised-up (pos n) f = omega arith
+raised-up (negsuc n) f = omega (arith, f .sfits)
 
-  pub exact-fits : SFits w64 (op (wide l) (wide r))
-  exact-fits = rw exact (h .whole)
+module _ {l r : ℤ} (f : SFits w32 l) (g : SFits w32 r) (eq : equalParity l r ≡ true) where
+  halves-less : pos (raised l / 2) -ℤ pos (raised r / 2) ≡ side l r
+  halves-less =
+      let m = side-range (2 ^ 31) (omega arith) l r (f .sfits) (g .sfits) in
+      let t = side-twice (2 ^ 31) (omega arith) l r (f .sfits) (g .sfits) eq in
+      let a = raised-under l f in
+      let b = raised-under r g in
+      let u = up-sub (pos (raised l / 2)) (pos (raised r / 2)) (omega arith) (omega arith) in
+      up-inj (pos (raised l / 2) -ℤ pos (raised r / 2)) (side l r)
+      (mag-up (2 ^ 38) (pos (raised l / 2) -ℤ pos (raised r / 2)) (omega arith) (omega arith) (omega arith)) (omega arith) (omega (arith, raised-up l f, raised-up r g))
 
-  -- its half, exactly
-  halves : quotZ (toZ w64 (ofZ w64 (op (wide l) (wide r)))) (pos 2) ≡ quotZ (op l r) (pos 2)
-  halves = ap (λ (z : ℤ). quotZ z (pos 2)) (toZ-ofZ w64 (op (wide l) (wide r)) exact-fits ∙ exact)
+  -- the halves as the calls give them
+  module _ {a b : ℤ} (p : mag a < 2 ^ 31) (x : a ≡ pos (raised (toZ w32 (ofZ w32 l)) / 2)) (q : mag b < 2 ^ 31) (y : b ≡ pos (raised (toZ w32 (ofZ w32 r)) / 2)) where
+    side-exact : toZ w32 (ofZ w32 a) -ℤ toZ w32 (ofZ w32 b) ≡ side l r
+    side-exact = ap₂ (λ (u v : ℤ). u -ℤ v) (half l f p x) (half r g q y) ∙ halves-less
+      where
+        half : (z : ℤ) {h : ℤ} → SFits w32 z → mag h < 2 ^ 31 → h ≡ pos (raised (toZ w32 (ofZ w32 z)) / 2) → toZ w32 (ofZ w32 h) ≡ pos (raised z / 2)
+        half z k m e = given m (e ∙ ap (λ (u : ℤ). pos (raised u / 2)) (toZ-ofZ w32 z k))
 
-  wider : SFits w64 (quotZ (op l r) (pos 2))
-  wider = record { sfits = omega (arith, h .half .sfits) }
+    pub side-fits : SFits w32 (toZ w32 (ofZ w32 a) -ℤ toZ w32 (ofZ w32 b))
+    side-fits = rw side-exact (record { sfits = side-range (2 ^ 31) (omega arith) l r (f .sfits) (g .sfits) })
 
-  pub half-fits : SFits w64 (quotZ (toZ w64 (ofZ w64 (op (wide l) (wide r)))) (pos 2))
-  half-fits = rw halves wider
+    pub side-is : toZ w32 (ofZ w32 (toZ w32 (ofZ w32 a) -ℤ toZ w32 (ofZ w32 b))) ≡ side l r
+    side-is = given (side-fits .sfits) side-exact
 
-  half-back : toZ w64 (ofZ w64 (quotZ (toZ w64 (ofZ w64 (op (wide l) (wide r)))) (pos 2))) ≡ quotZ (op l r) (pos 2)
-  half-back = toZ-ofZ w64 _ half-fits ∙ halves
+  -- side as the call gives it
+  module _ {s : ℤ} (p : mag s < 2 ^ 31) (x : s ≡ side (toZ w32 (ofZ w32 l)) (toZ w32 (ofZ w32 r))) where
+    mid-exact : toZ w32 (ofZ w32 l) -ℤ toZ w32 (ofZ w32 s) ≡ mid l r
+    mid-exact = ap₂ (λ (u v : ℤ). u -ℤ v) (toZ-ofZ w32 l f) (called side f g p x) ∙ less-side (2 ^ 31) (omega arith) l r (f .sfits) (g .sfits) eq
 
-  pub narrow-fits : SFits w32 (toZ w64 (ofZ w64 (quotZ (toZ w64 (ofZ w64 (op (wide l) (wide r)))) (pos 2))))
-  narrow-fits = rw half-back (h .half)
+    pub mid-fits : SFits w32 (toZ w32 (ofZ w32 l) -ℤ toZ w32 (ofZ w32 s))
+    mid-fits = rw mid-exact (record { sfits = mid-range (2 ^ 31) (omega arith) l r (f .sfits) (g .sfits) })
 
-  pub half-is : toZ w32 (ofZ w32 (toZ w64 (ofZ w64 (quotZ (toZ w64 (ofZ w64 (op (wide l) (wide r)))) (pos 2))))) ≡ quotZ (op l r) (pos 2)
-  half-is = toZ-ofZ w32 _ narrow-fits ∙ half-back
+    pub mid-is : toZ w32 (ofZ w32 (toZ w32 (ofZ w32 l) -ℤ toZ w32 (ofZ w32 s))) ≡ mid l r
+    mid-is = given (mid-fits .sfits) mid-exact
+
+-- ---- parity
 
 -- the lowest bit
 odd-bit : (z : ℤ) → SFits w32 z → codeOf 32 z % 2 ≡ natAbs z % 2

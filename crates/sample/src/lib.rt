@@ -1,11 +1,15 @@
 // Sums and differences of samples: wrapped at 32 bits, or of f32 on their bit patterns.
 use format::SampleFormat;
 ghost use mathlib.Core.Path.{_≡_};
+ghost use mathlib.Core.Bool.{true};
+ghost use Prim.Native.Nat.{_/_};
+ghost use lib.IntN.{pos};
 ghost use lib.Ieee.{binary32, nanBits, ofBits};
 ghost use Rattle.format.specs.Numbers.{value, codeOf, plus, minus};
 ghost use Rattle.format.specs.MidSide.{patternOf, left, right};
 ghost use Rattle.format.specs.Encoding.{mid, side, equalParity};
 ghost use Rattle.sample.specs.Patterns.{floatSum, floatDifference};
+ghost use Rattle.sample.specs.Raised.{raised};
 
 // The 32 bits of x.
 pub fn bits_of(x: i32) -> u32
@@ -100,16 +104,25 @@ pub fn equal_parity(l: i32, r: i32) -> bool
     bits_of(l) % 2 == bits_of(r) % 2
 }
 
-// Half of the exact sum.
-pub fn mid(l: i32, r: i32) -> i32
-    ensures { λ m. ⌜ m ≡ mid l r ⌝ }
+// Half of x, rounded down, and 2^30 more.
+fn half_up(x: i32) -> i32
+    ensures { λ h. ⌜ h ≡ pos (raised x / 2) ⌝ }
 {
-    ((l as i64 + r as i64) / 2) as i32
+    ((x as i64 + 0x8000_0000) as u32 / 2) as i32
 }
 
 // Half of the exact difference.
 pub fn side(l: i32, r: i32) -> i32
+    requires { ⌜ equalParity l r ≡ true ⌝ }
     ensures { λ s. ⌜ s ≡ side l r ⌝ }
 {
-    ((l as i64 - r as i64) / 2) as i32
+    half_up(l) - half_up(r)
+}
+
+// Half of the exact sum: what is left of l.
+pub fn mid(l: i32, r: i32) -> i32
+    requires { ⌜ equalParity l r ≡ true ⌝ }
+    ensures { λ m. ⌜ m ≡ mid l r ⌝ }
+{
+    l - side(l, r)
 }

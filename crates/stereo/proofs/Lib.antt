@@ -1,2 +1,2 @@
--- a test of all pairs
+-- the parity of pairs
 pub mod Rows

@@ -2,6 +2,7 @@
 use format::Depth;
 use lent::Container;
 ghost use mathlib.Core.Path.{_≡_};
+ghost use mathlib.Core.Bool.{true};
 ghost use Prim.Native.Nat.{_+_, _*_, _<_, _≤_};
 ghost use lib.ListN.{length};
 ghost use Rattle.format.specs.Encoding.{midSide, parity, plain};
@@ -9,6 +10,7 @@ ghost use Rattle.lent.specs.Lent.{lentOf, framesFrom};
 
 // Two channels of left and right as mid and side.
 pub fn mid_side(a: [[i32; 512]; 2]) -> [[i32; 512]; 2]
+    requires { ⌜ parity a ≡ true ⌝ }
     ensures { λ r. ⌜ r ≡ midSide a ⌝ }
 {
     let mut m = a;

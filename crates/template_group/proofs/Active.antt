@@ -1,18 +1,29 @@
--- The active samples of a group's channels are the first n of the padded ones, as left and right and as mid and side.
+-- Of a group's padded channels the first n samples are the active ones, as left and right and as mid and side; padding keeps their parity.
 use Prim.Native.Nat.{ℕ, zero, suc, _+_, _*_, _≤_, _<_}
-use mathlib.Core.Path.{_≡_, sym, ap, ap₂, _∙_}
+use mathlib.Core.Path.{_≡_, sym, ap, ap₂, _∙_, subst}
+use mathlib.Core.Bool.{Bool}
 use mathlib.Core.List.{List, []}
 use native.Mathlib.Omega.{arith}
 use lib.ListN.{length, getD, take}
 use lib.Seq.{take-at}
 use lib.IntN.{ℤ}
-use Rattle.format.specs.Lists.{pairwise}
-use Rattle.format.specs.Encoding.{channel, plain, padded, mid, side, midSide}
+use Rattle.format.specs.Lists.{tab, pairwise, every}
+use Rattle.format.specs.Encoding.{channel, plain, padded, split, mid, side, midSide, equalParity, parity}
 use Rattle.lent.specs.Lent.{framesFrom}
 use Rattle.lent.proofs.Taken.{frames-length}
 use Rattle.laws.proofs.Channels.{channel-length, plain-is}
 use Rattle.laws.proofs.Halves.{take-pairwise}
+use Rattle.laws.proofs.Stereo.{parity-split}
 use Rattle.template_group.proofs.Apart.{Apart}
+
+-- padding keeps the parity of two channels
+pub parity-apart : (channels first n : ℕ) (s : List ℤ) (a : List (List ℤ)) → channels ≡ 2 → Apart channels first n s a → parity a ≡ parity (plain channels (framesFrom channels first n s))
+unfolding parity split tab
+parity-apart channels first n s a two are =
+    subst (λ (k : ℕ). Apart k first n s a → parity a ≡ parity (plain k (framesFrom k first n s))) (sym two) by are
+  where
+    by : Apart 2 first n s a → parity a ≡ parity (plain 2 (framesFrom 2 first n s))
+    by p = ap₂ (λ (l r : List ℤ). every (λ (b : Bool). b) (pairwise equalParity l r)) (p 0 (omega arith)) (p 1 (omega arith)) ∙ parity-split (framesFrom 2 first n s)
 
 take-padded : (n : ℕ) (xs : List ℤ) → length xs ≡ n → take n (padded xs) ≡ xs
 unfolding padded

@@ -1,16 +1,14 @@
 -- The checks of a template's group: of each block, for the first samples of its channel, and at each way out.
 use Prim.Native.Nat.{ℕ, _+_, _*_, _≤_, _<_}
-use mathlib.Core.Path.{_≡_, sym, ap, ap₂, _∙_, subst}
+use mathlib.Core.Path.{_≡_, sym, ap, _∙_}
 use mathlib.Core.Bool.{Bool, true, false, not, _&&_, cond}
 use mathlib.Core.List.{List, []}
-use native.Mathlib.Omega.{arith}
 use lib.IntN.{ℤ}
 use lib.ListN.{length, getD, take}
 use lib.Dec.{eqb}
 use borrow.Author.Tests.{lt-ltb, le-ltb, eq-eqb, ne-eqb}
-use Rattle.format.specs.Lists.{tab, pairwise, every}
 use Rattle.format.specs.Blocks.{midBit, rest}
-use Rattle.format.specs.Encoding.{plain, split, midSide, equalParity, parity}
+use Rattle.format.specs.Encoding.{plain, midSide, parity}
 use Rattle.format.specs.Refusals.{refuse, _then_}
 use Rattle.format.specs.Reencoding.{checkNewBlock, activeIn, checkNewGroup}
 use Rattle.format.specs.declared.refusals.Refusal.the-variants.{NotStereo, ParityDiffers, ShortGroup, TemplateBytesLeft}
@@ -18,19 +16,9 @@ use Rattle.format.specs.declared.refusals.Checked.{Checked}
 use Rattle.format.specs.declared.refusals.Checked.the-variants.{No}
 use Rattle.lent.specs.Lent.{framesFrom}
 use Rattle.group.proofs.Checking.{blocksThen}
-use Rattle.laws.proofs.Stereo.{parity-split}
 use Rattle.laws.proofs.Checks.{order-cong}
 use Rattle.template_group.proofs.Apart.{Apart}
-use Rattle.template_group.proofs.Active.{active-plain, active-both}
-
--- padding keeps the parity of two channels
-parity-apart : (channels first n : ℕ) (s : List ℤ) (a : List (List ℤ)) → channels ≡ 2 → Apart channels first n s a → parity a ≡ parity (plain channels (framesFrom channels first n s))
-unfolding parity split tab
-parity-apart channels first n s a two are =
-    subst (λ (k : ℕ). Apart k first n s a → parity a ≡ parity (plain k (framesFrom k first n s))) (sym two) by are
-  where
-    by : Apart 2 first n s a → parity a ≡ parity (plain 2 (framesFrom 2 first n s))
-    by p = ap₂ (λ (l r : List ℤ). every (λ (b : Bool). b) (pairwise equalParity l r)) (p 0 (omega arith)) (p 1 (omega arith)) ∙ parity-split (framesFrom 2 first n s)
+use Rattle.template_group.proofs.Active.{parity-apart, active-plain, active-both}
 
 -- the check of channel c's block, for these active samples; and for the first n of each of these channels
 abbrev eachOf : ℕ → List (List ℤ) → ℕ → List ℕ → Checked
@@ -39,7 +27,7 @@ eachOf depth chans c r = checkNewBlock depth r (getD chans c [])
 abbrev pub firstOf : ℕ → ℕ → List (List ℤ) → ℕ → List ℕ → Checked
 firstOf depth n a c r = checkNewBlock depth r (take n (getD a c []))
 
-first-each : (depth channels n : ℕ) (bs : List ℕ) (a chans : List (List ℤ)) → ((c : ℕ) → c < channels → take n (getD a c []) ≡ getD chans c [])
+pub first-each : (depth channels n : ℕ) (bs : List ℕ) (a chans : List (List ℤ)) → ((c : ℕ) → c < channels → take n (getD a c []) ≡ getD chans c [])
     → blocksThen depth (firstOf depth n a) bs channels TemplateBytesLeft ≡ blocksThen depth (eachOf depth chans) bs channels TemplateBytesLeft
 first-each depth channels n bs a chans same =
     ap (λ (k : Checked). k then refuse (not (eqb (length (rest depth bs channels)) 0)) TemplateBytesLeft)

@@ -1,4 +1,4 @@
--- channels taken apart, and which of their samples are active; a group's checks, and its new blocks one after another
+-- channels taken apart, which of their samples are active, and their parity; a group's checks, and its new blocks one after another
 pub mod Apart
 pub mod Active
 pub mod Checking

@@ -12,23 +12,24 @@ use mir.Val.{Fits}
 use Rattle.format.specs.Lists.{joined, over}
 use Rattle.format.specs.Blocks.{midBit, sizeOf, rest}
 use Rattle.format.specs.Refusals.{inOrder}
-use Rattle.format.specs.Encoding.{midSide}
+use Rattle.format.specs.Encoding.{midSide, parity}
 use Rattle.format.specs.Reencoding.{newBlock, checkNewBlock, activeIn, checkNewGroup, newGroup}
 use Rattle.format.specs.declared.refusals.Checked.{Checked}
 use Rattle.format.specs.declared.refusals.Checked.the-variants.{Fine}
 use Rattle.lent.specs.Lent.{framesFrom}
 use Rattle.laws.proofs.Over.{lend-turn}
 use Rattle.laws.proofs.Parts.{one-more, joined-cong}
-use Rattle.laws.proofs.Checks.{first-fine, others-fine, order-fine, order-cong}
-use Rattle.laws.proofs.Templates.{Template, template-ok, new-length, two-ok, chans-plain, chans-both}
+use Rattle.laws.proofs.Checks.{first-fine, others-fine, order-fine}
+use Rattle.laws.proofs.Templates.{Template, template-ok, new-length, two-ok, even-ok, chans-plain, chans-both}
 use Rattle.group.proofs.Places.{part, part-is, Begins, begins-more}
 use Rattle.template_group.proofs.Apart.{Apart}
-use Rattle.template_group.proofs.Active.{active-plain, active-both}
+use Rattle.template_group.proofs.Active.{parity-apart, active-plain, active-both}
+use Rattle.template_group.proofs.Checking.{firstOf, first-each}
 
 -- the first n samples of the channels a, with the template's group bs
 module _ (depth n : ℕ) (bs : List ℕ) (a : List (List ℤ)) where
   abbrev check : ℕ → Checked
-  check c = checkNewBlock depth (rest depth bs c) (take n (getD a c []))
+  check c = firstOf depth n a c (rest depth bs c)
 
   abbrev B : ℕ → List ℕ
   B c = newBlock depth (rest depth bs c) (take n (getD a c []))
@@ -92,9 +93,7 @@ module _ (depth channels : ℕ) (bs : List ℕ) (s : List ℤ) (fine : checkNewG
     pub order-ok : inOrder (check depth n bs a) channels ≡ Fine
     unfolding checkNewGroup
     order-ok =
-        order-cong (check depth n bs a) (λ c. checkNewBlock depth (rest depth bs c) (getD (activeIn channels bs s) c [])) channels
-        (λ c h. ap (checkNewBlock depth (rest depth bs c)) (same .are c h))
-        ∙ first-fine _ _ (others-fine _ _ (others-fine _ _ (others-fine _ _ fine)))
+        first-fine _ _ (first-each depth channels n bs a (activeIn channels bs s) (same .are) ∙ others-fine _ _ (others-fine _ _ (others-fine _ _ fine)))
 
     pub group-written : (xs d : List ℕ) → d ≡ over (newBefore depth n bs a channels) xs → d ≡ over (newGroup depth channels bs s) xs
     unfolding newGroup
@@ -114,6 +113,11 @@ module _ (depth channels first n : ℕ) (bs : List ℕ) (s : List ℤ) (fine : c
   as-plain e = record {
     are = λ c h. active-plain channels first n s a some room are c h ∙ ap (λ (l : List (List ℤ)). getD l c []) (sym (chans-plain depth channels bs frames fine (sym mid ∙ e)));
   }
+
+  pub as-even : t ≡ true → parity a ≡ true
+  as-even e =
+      let m = sym mid ∙ e in
+      parity-apart channels first n s a (two-ok depth channels bs frames fine m) are ∙ even-ok depth channels bs frames fine m
 
   pub as-both : t ≡ true → (b : List (List ℤ)) → b ≡ midSide a → Actives channels n bs frames b
   as-both e b q = record {

@@ -6,12 +6,14 @@ use mathlib.Core.Bool.{Bool, true, false, not}
 use native.Mathlib.Omega.{arith}
 use lib.IntN.{ℤ}
 use lib.ListN.{length}
+use borrow.Author.Tests.{not-false}
 use Rattle.format.specs.Lists.{joined, anyBelow}
 use Rattle.format.specs.Header.{groupsOf}
 use Rattle.format.specs.Decoding.{active}
-use Rattle.format.specs.Encoding.{plain, parity, groupOf, groupIn, groupAt}
+use Rattle.format.specs.Encoding.{plain, parity, groupOf, groupIn, groupAt, isMidSide}
 use Rattle.format.specs.declared.settings.PcmSpec.{PcmSpec}
 use Rattle.format.specs.declared.settings.StereoMode.{StereoMode}
+use Rattle.laws.proofs.Checks.{found-below}
 use Rattle.laws.proofs.Channels.{active-low}
 use Rattle.laws.proofs.Parts.{one-more, length-mono}
 use Rattle.header.proofs.Chain.{any-more, any-found}
@@ -74,6 +76,14 @@ module _ {p : PcmSpec} {mode : StereoMode} {s : List ℤ} {frames groups g n : �
   inside : g < groupsOf frames
   inside = omega arith
 
+  group-is : framesFrom (p .channels) (512 * g) n s ≡ groupIn (p .channels) s g
+  group-is = group-frames (p .channels) frames s samples-count g n (here .count)
+
+  group-even : isMidSide mode ≡ true → parity (plain (p .channels) (framesFrom (p .channels) (512 * g) n s)) ≡ true
+  group-even e =
+      let below : g < groupsOf (length s / p .channels) = rw (here .whole) at inside in
+      rw group-is (not-false _ (found-below _ g _ below (here .good .even e)))
+
   pub group-writable : Writable p mode (512 * g) n s
   group-writable = record {
     some = rw (here .count) (active-some frames g inside);
@@ -84,11 +94,12 @@ module _ {p : PcmSpec} {mode : StereoMode} {s : List ℤ} {frames groups g n : �
     high = here .good .high;
     hold = here .good .hold;
     stereo = here .good .stereo;
+    even = group-even;
   }
 
   pub group-bytes : groupOf p mode (framesFrom (p .channels) (512 * g) n s) ≡ groupAt p mode s g
   unfolding groupAt
-  group-bytes = ap (groupOf p mode) (group-frames (p .channels) frames s samples-count g n (here .count))
+  group-bytes = ap (groupOf p mode) group-is
 
   module _ {at : ℕ} (so-far : at ≡ length (joined (groupAt p mode s) g)) where
     pub group-fits : at + length (groupAt p mode s g) ≤ length (joined (groupAt p mode s) (groupsOf frames))

@@ -98,6 +98,7 @@ accepted p mode s fine =
     let rest = others-fine (checkEncoder p) _ fine in
     let spec = encoder-ok p (first-fine _ _ fine) in
     let ok = first-fine (checkSamples p s) _ rest in
+    let both = others-fine (checkSamples p s) _ rest in
     record {
       some = spec .some;
       low = spec .low;
@@ -105,5 +106,6 @@ accepted p mode s fine =
       whole = frames-ok p s ok;
       count = count-ok p s ok;
       hold = holds-every (p .«bits_per_sample») s (values-ok p s ok (spec .depth));
-      stereo = passed _ _ (first-fine _ _ (others-fine (checkSamples p s) _ rest));
+      stereo = passed _ _ (first-fine _ _ both);
+      even = λ e. rw e at (passed _ _ (others-fine _ _ both));
     }

@@ -1,4 +1,4 @@
--- What the checks 30 to 34 leave: settings and samples that can be written.
+-- What the checks 30 to 35 leave: settings and samples that can be written.
 use Prim.Native.Nat.{_*_, _/_, _<_, _≤_}
 use mathlib.Core.Path.{_≡_}
 use mathlib.Core.List.{List}
@@ -6,9 +6,10 @@ use mathlib.Core.Bool.{true, false, not, _&&_}
 use lib.ListN.{length}
 use lib.IntN.{ℤ}
 use lib.Dec.{eqb}
-use Rattle.format.specs.Lists.{every}
+use Rattle.format.specs.Lists.{every, anyBelow}
 use Rattle.format.specs.Numbers.{holds}
-use Rattle.format.specs.Encoding.{isMidSide}
+use Rattle.format.specs.Header.{groupsOf}
+use Rattle.format.specs.Encoding.{plain, parity, groupIn, isMidSide}
 use Rattle.format.specs.declared.settings.PcmSpec.{PcmSpec}
 use Rattle.format.specs.declared.settings.StereoMode.{StereoMode}
 
@@ -20,3 +21,4 @@ pub record Accepted (p : PcmSpec) (mode : StereoMode) (s : List ℤ) : Type 0 wh
   pub count : length s / p .channels < 4294967296
   pub hold : every (holds (p .«bits_per_sample»)) s ≡ true
   pub stereo : (isMidSide mode && not (eqb (p .channels) 2)) ≡ false
+  pub even : isMidSide mode ≡ true → anyBelow (λ g. not (parity (plain (p .channels) (groupIn (p .channels) s g)))) (groupsOf (length s / p .channels)) ≡ false

@@ -1,6 +1,6 @@
 -- `new_group::auto_takes` meets its contract.
 use borrow.Author.Needs.{needs}
-use Rattle.new_group.proofs.Groups.{auto-smaller, auto-not}
+use Rattle.new_group.proofs.Groups.{parity-known, auto-smaller, auto-not}
 use Rattle.new_group.proofs.auto_takes.Statement.{statement}
 use Rattle.new_group.proofs.auto_takes.Tie as tie
 
@@ -9,6 +9,6 @@ auto-takes-spec =
     tie.close
     (tie.spec
     (λ c κs. search needs)
-    (λ c κs. search needs)
+    (λ c κs. search (needs, parity-known))
     (λ c. search (needs, auto-smaller))
     (λ c. search (needs, auto-not)))

@@ -1,6 +1,6 @@
 -- `new_group::group_size` meets its contract.
 use borrow.Author.Needs.{needs}
-use Rattle.new_group.proofs.Groups.{two-inside, size-mid, size-direct, group-other, group-count}
+use Rattle.new_group.proofs.Groups.{two-inside, taken-even, size-mid, size-direct, group-other, group-count}
 use Rattle.new_group.proofs.group_size.Statement.{statement}
 use Rattle.new_group.proofs.group_size.Tie as tie
 
@@ -10,7 +10,7 @@ group-size-spec =
     (tie.spec
     (λ c κs. search (needs, two-inside))
     (λ c κs. search needs)
-    (λ c κs. search needs)
+    (λ c κs. search (needs, taken-even))
     (λ c κs. search needs)
     (λ c. search (needs, size-mid))
     (λ c κs. search needs)

@@ -1,6 +1,6 @@
 -- `new_group::write_group` meets its contract.
 use borrow.Author.Needs.{needs}
-use Rattle.new_group.proofs.Groups.{two-inside, mid-holds, direct-holds, group-mid, group-direct, group-other, as-direct, group-fits, group-count, group-written}
+use Rattle.new_group.proofs.Groups.{two-inside, taken-even, mid-holds, direct-holds, group-mid, group-direct, group-other, as-direct, group-fits, group-count, group-written}
 use Rattle.new_group.proofs.write_group.Statement.{statement}
 use Rattle.new_group.proofs.write_group.Tie as tie
 
@@ -10,7 +10,7 @@ write-group-spec =
     (tie.spec
     (λ c κs. search (needs, two-inside))
     (λ c κs. search needs)
-    (λ c κs. search needs)
+    (λ c κs. search (needs, taken-even))
     (λ c κs. search (needs, mid-holds, group-fits, group-mid))
     (λ c. search needs)
     (λ c. search (needs, group-count, group-written, group-mid))

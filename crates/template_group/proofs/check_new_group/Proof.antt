@@ -1,4 +1,5 @@
 -- `template_group::check_new_group` meets its contract.
+use mathlib.Core.Path.{sym, _∙_}
 use borrow.Author.Needs.{needs}
 use Rattle.template_group.proofs.Checking.{short-group, not-stereo, parity-differs, both-checked, plain-checked}
 use Rattle.template_group.proofs.check_new_group.Statement.{statement}
@@ -20,7 +21,7 @@ check-new-group-spec =
     (λ c. search (needs, not-stereo))
     (λ c κs. search needs)
     (λ c. search (needs, parity-differs))
-    (λ c κs. search needs)
+    (λ c κs. sym (c .before .parity .ensures) ∙ c .if4 .taken)
     (λ c κs. search needs)
     (λ c. search (needs, both-checked))
     (λ c κs. search needs)

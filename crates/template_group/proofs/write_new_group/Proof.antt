@@ -1,7 +1,7 @@
 -- `template_group::write_new_group` meets its contract.
 use borrow.Author.Needs.{needs}
 use Rattle.laws.proofs.Templates.{head-ok}
-use Rattle.template_group.proofs.Writing.{order-ok, group-written, as-plain, as-both}
+use Rattle.template_group.proofs.Writing.{order-ok, group-written, as-plain, as-even, as-both}
 use Rattle.template_group.proofs.write_new_group.Statement.{statement}
 use Rattle.template_group.proofs.write_new_group.Tie as tie
 
@@ -38,7 +38,7 @@ write-new-group-spec =
     (tie.spec
     (λ c κs. search needs)
     (λ c κs. search (needs, head-ok))
-    (λ c κs. search needs)
+    (λ c κs. search (needs, as-even))
     write-channels-requires
     write-channels-requires-2
     (λ c. search needs)
