@@ -1,3 +1,4 @@
+-- `template::reencode_lent` meets its contract at each way out.
 use mathlib.Core.Path.{_∙_}
 use borrow.Author.Needs.{needs}
 use Rattle.template.proofs.Ways.{check-refused, check-keeps, check-fine, short-refused, short-keeps, writes, puts-file}

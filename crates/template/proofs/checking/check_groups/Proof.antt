@@ -1,3 +1,4 @@
+-- `template::check_groups` meets its contract. The loop's invariant: the groups before g have passed.
 use Prim.Native.Nat.{_-_, _≤_}
 use mathlib.Core.Path.{_≡_}
 use native.Mathlib.Omega.{arith}
@@ -8,8 +9,7 @@ use Rattle.format.specs.Encoding.{groupIn}
 use Rattle.format.specs.Reencoding.{checkNewGroup}
 use Rattle.format.specs.declared.refusals.Checked.the-variants.{Fine}
 use Rattle.lent.specs.Lent.{lentOf}
-use Rattle.laws.proofs.Reading.{order-more}
-use Rattle.laws.proofs.Reading.{order-none, order-ends, order-whole}
+use Rattle.laws.proofs.Reading.{order-more, order-none, order-ends, order-whole}
 use Rattle.template.proofs.Groups.{some-channel, few-channels, some-bits, few-bits, entry-there, entry-next, part-rises, part-within, frames-some, frames-inside, part-checked}
 use Rattle.template.proofs.checking.check_groups.Statement.{statement}
 use Rattle.template.proofs.checking.check_groups.Tie as tie

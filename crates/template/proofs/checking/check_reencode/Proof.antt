@@ -1,3 +1,4 @@
+-- `template::check_reencode` meets its contract: each stage refuses, or the next is asked.
 use borrow.Author.Needs.{needs}
 use Rattle.template.proofs.Groups.{some-channel}
 use Rattle.template.proofs.Stages.{spec-passed, samples-passed, template-passed, template-long, spec-refused, samples-refused, template-refused, groups-rest}

@@ -1,3 +1,4 @@
+-- `template::check_rising` meets its contract.
 use borrow.Author.Needs.{needs}
 use Rattle.format.specs.Reencoding.{checkRising}
 use Rattle.header.proofs.Chain.{chain, flags}

@@ -1,3 +1,4 @@
+-- `template::check_same` meets its contract.
 use Rattle.format.specs.Reencoding.{checkSame}
 use Rattle.header.proofs.Chain.{chain}
 use Rattle.template.proofs.checking.check_same.Statement.{statement}

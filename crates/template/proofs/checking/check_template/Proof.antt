@@ -1,3 +1,4 @@
+-- `template::check_template` meets its contract: each way out answers as the checks in order.
 use borrow.Author.Needs.{needs}
 use Rattle.laws.proofs.SampleChecks.{frames-ok, count-ok}
 use Rattle.template.proofs.Groups.{some-channel}

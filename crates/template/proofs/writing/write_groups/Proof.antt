@@ -1,3 +1,4 @@
+-- `template::write_groups` meets its contract. The loop's invariant: the first g groups lie in their places.
 use Prim.Native.Nat.{_-_, _≤_}
 use mathlib.Core.Path.{_≡_, refl}
 use borrow.Author.Needs.{needs}
