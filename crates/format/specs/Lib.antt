@@ -19,3 +19,5 @@ pub mod Encoding
 pub mod Reencoding
 -- "What must change shape": the host boundary
 pub mod Boundary
+-- "What the promises are held to"
+pub mod Promises

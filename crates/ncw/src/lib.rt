@@ -9,7 +9,8 @@ ghost use Prim.Native.Nat.{_*_, _<_, _^_};
 ghost use lib.ListN.{length};
 ghost use Rattle.format.specs.declared.units.Samples.{Samples};
 ghost use Rattle.format.specs.declared.answers.Outcome.the-variants.{Read};
-ghost use Rattle.format.specs.Boundary.{modeOf, result, hostOpen, hostDecode, hostDecodeInto, hostEncode, hostEncodeInto, hostReencode, hostReencodeInto};
+ghost use Rattle.format.specs.Boundary.{modeOf, result};
+ghost use Rattle.format.specs.Promises.{HostOpens, HostDecodes, HostEncodes, HostReencodes};
 
 // The length in bytes (for opening, what decoding would write), or 2^63 plus the refusal number.
 fn result(outcome: Outcome) -> u64
@@ -30,7 +31,7 @@ fn result(outcome: Outcome) -> u64
 
 #[no_mangle]
 pub extern "C" fn ncw_open(file: &[u8]) -> u64
-    ensures { λ r. ⌜ r ≡ hostOpen (now (file .entry)) ⌝ }
+    ensures { λ r. ⌜ HostOpens (now (file .entry)) r ⌝ }
 {
     let answer = opening::open(file);
     let outcome = answer.outcome;
@@ -39,8 +40,7 @@ pub extern "C" fn ncw_open(file: &[u8]) -> u64
 
 #[no_mangle]
 pub extern "C" fn ncw_decode(file: &[u8], samples: &mut [u8]) -> u64
-    ensures answers { λ r. ⌜ r ≡ hostDecode (now (file .entry)) (length (now (samples .entry))) ⌝ }
-    ensures puts { λ _. ⌜ now (samples .exit) ≡ hostDecodeInto (now (file .entry)) (now (samples .entry)) ⌝ }
+    ensures { λ r. ⌜ HostDecodes (now (file .entry)) (now (samples .entry)) r (now (samples .exit)) ⌝ }
 {
     let answer = reader::decode_lent(Container::Bytes, file, &mut [], samples);
     let outcome = answer.outcome;
@@ -67,8 +67,7 @@ pub extern "C" fn ncw_encode(
     mode: u32,
     file: &mut [u8],
 ) -> u64
-    ensures answers { λ r. ⌜ r ≡ hostEncode (now (samples .entry)) (record { channels = channels; «bits_per_sample» = depth; «sample_rate» = rate }) mode (length (now (file .entry))) ⌝ }
-    ensures puts { λ _. ⌜ now (file .exit) ≡ hostEncodeInto (now (samples .entry)) (record { channels = channels; «bits_per_sample» = depth; «sample_rate» = rate }) mode (now (file .entry)) ⌝ }
+    ensures { λ r. ⌜ HostEncodes (now (samples .entry)) (record { channels = channels; «bits_per_sample» = depth; «sample_rate» = rate }) mode (now (file .entry)) r (now (file .exit)) ⌝ }
 {
     if 3 <= mode {
         return result(Outcome::Refused(Refusal::UnknownMode));
@@ -95,8 +94,7 @@ pub extern "C" fn ncw_reencode(
     template: &[u8],
     file: &mut [u8],
 ) -> u64
-    ensures answers { λ r. ⌜ r ≡ hostReencode (now (samples .entry)) (record { channels = channels; «bits_per_sample» = depth; «sample_rate» = rate }) (now (template .entry)) (length (now (file .entry))) ⌝ }
-    ensures puts { λ _. ⌜ now (file .exit) ≡ hostReencodeInto (now (samples .entry)) (record { channels = channels; «bits_per_sample» = depth; «sample_rate» = rate }) (now (template .entry)) (now (file .entry)) ⌝ }
+    ensures { λ r. ⌜ HostReencodes (now (samples .entry)) (record { channels = channels; «bits_per_sample» = depth; «sample_rate» = rate }) (now (template .entry)) (now (file .entry)) r (now (file .exit)) ⌝ }
 {
     if samples.len() % 4 != 0 {
         return result(Outcome::Refused(Refusal::SampleBytes));

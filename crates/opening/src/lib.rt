@@ -13,7 +13,8 @@ ghost use mathlib.Core.Path.{_≡_};
 ghost use Prim.Native.Nat.{_+_, _≤_};
 ghost use lib.ListN.{length};
 ghost use Rattle.format.specs.Header.{fieldsOf, groupsOf};
-ghost use Rattle.format.specs.Opening.{checkFirst, formatOf, checkOpen, headerOf, openOf};
+ghost use Rattle.format.specs.Opening.{checkFirst, formatOf, checkOpen, headerOf};
+ghost use Rattle.format.specs.Promises.{Opens};
 ghost use Rattle.format.specs.declared.refusals.Checked.the-variants.{Fine};
 
 fn check_first(s: &[u8], h: Fields) -> Checked
@@ -89,7 +90,7 @@ fn header_of(s: &[u8]) -> Header
 }
 
 pub fn open(file: &[u8]) -> Answer
-    ensures { λ r. ⌜ r ≡ openOf (now (file .entry)) ⌝ }
+    ensures { λ r. ⌜ Opens (now (file .entry)) r ⌝ }
 {
     if let Checked::No(r) = check_open(file) {
         return Answer::refused(r);

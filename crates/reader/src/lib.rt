@@ -14,14 +14,12 @@ use format::Refusal;
 use lent::Container;
 ghost use mathlib.Core.Path.{_≡_};
 ghost use lib.ListN.{length};
-ghost use Rattle.format.specs.Decoding.{decodeOf, decodeInto};
-ghost use Rattle.format.specs.Walking.{stepOf, stepInto};
+ghost use Rattle.format.specs.Promises.{Decodes, Steps};
 ghost use Rattle.lent.specs.Lent.{lentOf, restOf};
 
 // Decoding into either container.
 pub fn decode_lent(which: Container, file: &[u8], words: &mut [i32], bytes: &mut [u8]) -> Answer
-    ensures answers { λ r. ⌜ r ≡ decodeOf (now (file .entry)) (length (lentOf which (now (words .entry)) (now (bytes .entry)))) ⌝ }
-    ensures puts { λ _. ⌜ lentOf which (now (words .exit)) (now (bytes .exit)) ≡ decodeInto (now (file .entry)) (lentOf which (now (words .entry)) (now (bytes .entry))) ⌝ }
+    ensures decodes { λ r. ⌜ Decodes (now (file .entry)) (lentOf which (now (words .entry)) (now (bytes .entry))) r (lentOf which (now (words .exit)) (now (bytes .exit))) ⌝ }
     ensures keeps { λ _. ⌜ restOf which (now (words .exit)) (now (bytes .exit)) ≡ restOf which (now (words .entry)) (now (bytes .entry)) ⌝ }
 {
     if let Checked::No(r) = check_decode(file) {
@@ -38,7 +36,7 @@ pub fn decode_lent(which: Container, file: &[u8], words: &mut [i32], bytes: &mut
 }
 
 pub fn decode_samples(file: &[u8], out: &mut [i32]) -> Answer
-    ensures { λ r. ⌜ (r ≡ decodeOf (now (file .entry)) (length (now (out .entry)))) × (now (out .exit) ≡ decodeInto (now (file .entry)) (now (out .entry))) ⌝ }
+    ensures { λ r. ⌜ Decodes (now (file .entry)) (now (out .entry)) r (now (out .exit)) ⌝ }
 {
     decode_lent(Container::Words, file, out, &mut [])
 }
@@ -51,8 +49,7 @@ pub fn decode_group_lent(
     words: &mut [i32],
     bytes: &mut [u8],
 ) -> Answer
-    ensures answers { λ r. ⌜ r ≡ stepOf (now (file .entry)) g (length (lentOf which (now (words .entry)) (now (bytes .entry)))) ⌝ }
-    ensures puts { λ _. ⌜ lentOf which (now (words .exit)) (now (bytes .exit)) ≡ stepInto (now (file .entry)) g (lentOf which (now (words .entry)) (now (bytes .entry))) ⌝ }
+    ensures steps { λ r. ⌜ Steps (now (file .entry)) g (lentOf which (now (words .entry)) (now (bytes .entry))) r (lentOf which (now (words .exit)) (now (bytes .exit))) ⌝ }
     ensures keeps { λ _. ⌜ restOf which (now (words .exit)) (now (bytes .exit)) ≡ restOf which (now (words .entry)) (now (bytes .entry)) ⌝ }
 {
     if let Checked::No(r) = check_walk(file, g, lent::count(which, words, bytes)) {
@@ -72,7 +69,7 @@ pub fn decode_group_lent(
 }
 
 pub fn decode_group(file: &[u8], g: u32, out: &mut [i32]) -> Answer
-    ensures { λ r. ⌜ (r ≡ stepOf (now (file .entry)) g (length (now (out .entry)))) × (now (out .exit) ≡ stepInto (now (file .entry)) g (now (out .entry))) ⌝ }
+    ensures { λ r. ⌜ Steps (now (file .entry)) g (now (out .entry)) r (now (out .exit)) ⌝ }
 {
     decode_group_lent(Container::Words, file, g, out, &mut [])
 }

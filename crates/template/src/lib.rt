@@ -10,9 +10,7 @@ use format::Outcome;
 use format::PcmSpec;
 use format::Refusal;
 use lent::Container;
-ghost use mathlib.Core.Path.{_≡_};
-ghost use lib.ListN.{length};
-ghost use Rattle.format.specs.Reencoding.{reencodeOf, reencodeInto};
+ghost use Rattle.format.specs.Promises.{Reencodes};
 ghost use Rattle.lent.specs.Lent.{lentOf};
 
 // Re-encoding from either container.
@@ -24,8 +22,7 @@ pub fn reencode_lent(
     template: &[u8],
     out: &mut [u8],
 ) -> Answer
-    ensures answers { λ r. ⌜ r ≡ reencodeOf p (lentOf which (now (words .entry)) (now (bytes .entry))) (now (template .entry)) (length (now (out .entry))) ⌝ }
-    ensures puts { λ _. ⌜ now (out .exit) ≡ reencodeInto p (lentOf which (now (words .entry)) (now (bytes .entry))) (now (template .entry)) (now (out .entry)) ⌝ }
+    ensures { λ r. ⌜ Reencodes p (lentOf which (now (words .entry)) (now (bytes .entry))) (now (template .entry)) (now (out .entry)) r (now (out .exit)) ⌝ }
 {
     if let Checked::No(r) = check_reencode(which, words, bytes, p, template) {
         return Answer::refused(r);
@@ -43,7 +40,7 @@ pub fn encode_pcm_with_template(
     template: &[u8],
     out: &mut [u8],
 ) -> Answer
-    ensures { λ r. ⌜ (r ≡ reencodeOf spec (now (samples .entry)) (now (template .entry)) (length (now (out .entry)))) × (now (out .exit) ≡ reencodeInto spec (now (samples .entry)) (now (template .entry)) (now (out .entry))) ⌝ }
+    ensures { λ r. ⌜ Reencodes spec (now (samples .entry)) (now (template .entry)) (now (out .entry)) r (now (out .exit)) ⌝ }
 {
     reencode_lent(Container::Words, samples, &[], spec, template, out)
 }

@@ -14,9 +14,8 @@ use format::PcmSpec;
 use format::Refusal;
 use format::StereoMode;
 use lent::Container;
-ghost use mathlib.Core.Path.{_≡_};
 ghost use lib.ListN.{length};
-ghost use Rattle.format.specs.Encoding.{encodeOf, encodeInto};
+ghost use Rattle.format.specs.Promises.{Encodes};
 ghost use Rattle.lent.specs.Lent.{lentOf};
 
 // Encoding from either container.
@@ -28,8 +27,7 @@ pub fn encode_lent(
     mode: StereoMode,
     out: &mut [u8],
 ) -> Answer
-    ensures answers { λ r. ⌜ r ≡ encodeOf p mode (lentOf which (now (words .entry)) (now (bytes .entry))) (length (now (out .entry))) ⌝ }
-    ensures puts { λ _. ⌜ now (out .exit) ≡ encodeInto p mode (lentOf which (now (words .entry)) (now (bytes .entry))) (now (out .entry)) ⌝ }
+    ensures { λ r. ⌜ Encodes p mode (lentOf which (now (words .entry)) (now (bytes .entry))) (now (out .entry)) r (now (out .exit)) ⌝ }
 {
     if let Checked::No(r) = check_input(which, words, bytes, p, mode) {
         return Answer::refused(r);
@@ -48,7 +46,7 @@ pub fn encode_lent(
 }
 
 pub fn encode_pcm(samples: &[i32], spec: PcmSpec, mode: StereoMode, out: &mut [u8]) -> Answer
-    ensures { λ r. ⌜ (r ≡ encodeOf spec mode (now (samples .entry)) (length (now (out .entry)))) × (now (out .exit) ≡ encodeInto spec mode (now (samples .entry)) (now (out .entry))) ⌝ }
+    ensures { λ r. ⌜ Encodes spec mode (now (samples .entry)) (now (out .entry)) r (now (out .exit)) ⌝ }
 {
     encode_lent(Container::Words, samples, &[], spec, mode, out)
 }

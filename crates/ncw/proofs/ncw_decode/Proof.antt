@@ -10,7 +10,7 @@ use Rattle.ncw.proofs.ncw_decode.Tie as tie
 result-requires : tie.Need-result-requires
 result-requires c κs =
     let call = c .before .before .before in
-    decode-reads-few _ _ _ (λ i. call .before .before .before .before .shared-slice-known .given i .fits) (call .decode-lent .ensures .0)
+    decode-reads-few _ _ _ (λ i. call .before .before .before .before .shared-slice-known .given i .fits) (call .decode-lent .ensures .0 .0)
 
 returns : tie.Need-returns
 returns c =
@@ -18,8 +18,8 @@ returns c =
     let lent = call .before .before .before in
     let x = lent .before .before .args in
     let e = call .decode-lent .ensures in (
-      told-decode (x .file .now) (x .samples .now) _ _ (c .result .ensures) (e .0),
-      put-bytes (x .file .now) (x .samples .now) _ (λ i. lent .slice-known .given i .fits) (λ i. c .before .slice-known2 .given i .fits) (e .1 .0) (ap (λ (r : Rest). r .bytes) (e .1 .1)),
+      told-decode (x .file .now) (x .samples .now) _ _ (c .result .ensures) (e .0 .0),
+      put-bytes (x .file .now) (x .samples .now) _ (λ i. lent .slice-known .given i .fits) (λ i. c .before .slice-known2 .given i .fits) (e .0 .1) (ap (λ (r : Rest). r .bytes) (e .1)),
     )
 
 pub ncw-decode-spec : {M : Type 1} → statement M

@@ -5,13 +5,13 @@ use Rattle.reader.proofs.decode_group_lent.Statement.{statement}
 use Rattle.reader.proofs.decode_group_lent.Tie as tie
 
 returns : tie.Need-returns
-returns c = (c .refused .ensures ∙ search step-refused, (search step-keeps, search needs))
+returns c = ((c .refused .ensures ∙ search step-refused, search step-keeps), search needs)
 
 read-fields-requires : tie.Need-read-fields-requires
 read-fields-requires c κs = search step-fields
 
 returns-2 : tie.Need-returns-2
-returns-2 c = (c .of .ensures ∙ search step-done, (search done-keeps, search needs))
+returns-2 c = ((c .of .ensures ∙ search step-done, search done-keeps), search needs)
 
 format-of-requires : tie.Need-format-of-requires
 format-of-requires c κs = (search step-opens, search needs)
@@ -40,7 +40,7 @@ write-group-requires : tie.Need-write-group-requires
 write-group-requires c κs = (search step-readable, search needs, search step-room)
 
 returns-3 : tie.Need-returns-3
-returns-3 c = (c .of2 .ensures ∙ search step-reads, (search puts-group, search needs))
+returns-3 c = ((c .of2 .ensures ∙ search step-reads, search puts-group), search needs)
 
 pub decode-group-lent-spec : {M : Type 1} → statement M
 decode-group-lent-spec =
