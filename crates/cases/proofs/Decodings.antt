@@ -4,12 +4,13 @@ use mathlib.Core.Path.{_≡_, refl}
 use mathlib.Core.List.{List, [], _∷_, _++_}
 use lib.ListN.{replicate}
 use lib.IntN.{ℤ, pos, negsuc}
+use Rattle.format.specs.Answers.{refusedBy, read}
 use Rattle.format.specs.Packed.{packing}
 use Rattle.format.specs.Decoding.{checkDecode, decodeOf, decodeInto}
 use Rattle.format.specs.Encoding.{block}
 use Rattle.format.specs.declared.refusals.Checked.the-variants.{No}
 use Rattle.format.specs.declared.refusals.Refusal.the-variants.{BitsWord, BytesLeft, OutputTooShort}
-use Rattle.format.proofs.Made.{document-01, decodesTo, said, read, refused, laid, changed, five}
+use Rattle.format.proofs.Made.{document-01, decodesTo, said, laid, changed, five}
 
 abbrev small : List ℕ
 small = block (pos 7) (pos 1) 0 (replicate 64 255)
@@ -74,10 +75,10 @@ pub record Decodings : Type 0 where
   pub lowest-pair : decodesTo (stereo 16 (raw 1 (negsuc 2147483647)) (raw 0 (negsuc 2147483647))) (pos 0 ∷ pos 0 ∷ [])
   -- 50 comes last; a refusal changes nothing, and what lies after the samples stays
   pub room-enough : decodeOf five 1 ≡ read 1
-  pub room-short : decodeOf five 0 ≡ refused OutputTooShort
-  pub room-stereo : decodeOf (stereo 32 (raw 0 (pos 9)) (raw 0 (pos 2))) 1 ≡ refused OutputTooShort
+  pub room-short : decodeOf five 0 ≡ refusedBy OutputTooShort
+  pub room-stereo : decodeOf (stereo 32 (raw 0 (pos 9)) (raw 0 (pos 2))) 1 ≡ refusedBy OutputTooShort
   pub room-stereo-enough : decodeOf (stereo 32 (raw 0 (pos 9)) (raw 0 (pos 2))) 2 ≡ read 2
-  pub room-last : decodeOf (second (block (pos 0) (pos 1) 0 (replicate 65 0))) 0 ≡ refused BytesLeft
+  pub room-last : decodeOf (second (block (pos 0) (pos 1) 0 (replicate 65 0))) 0 ≡ refusedBy BytesLeft
   pub kept : decodeInto (second (block (pos 0) (pos 1) 0 (replicate 65 0))) (pos 1 ∷ pos 2 ∷ []) ≡ pos 1 ∷ pos 2 ∷ []
   pub after : decodeInto five (pos 1 ∷ pos 2 ∷ []) ≡ pos 5 ∷ pos 2 ∷ []
 

@@ -5,6 +5,7 @@ use mathlib.Core.Bool.{true, false}
 use mathlib.Core.List.{List, [], _∷_, _++_}
 use lib.ListN.{drop, replicate}
 use lib.IntN.{ℤ, pos, negsuc}
+use Rattle.format.specs.Answers.{refusedBy, wrote}
 use Rattle.format.specs.Lists.{tab, joined}
 use Rattle.format.specs.Numbers.{numAt}
 use Rattle.format.specs.Header.{fieldsOf}
@@ -14,7 +15,7 @@ use Rattle.format.specs.Encoding.{width, takesMid, groupOf, groupAt, fileOf, ch
 use Rattle.format.specs.declared.refusals.Refusal.the-variants.{NotStereo, OutputTooShort}
 use Rattle.format.specs.declared.settings.PcmSpec.{PcmSpec}
 use Rattle.format.specs.declared.settings.StereoMode.the-variants.{Auto, Direct, MidSide}
-use Rattle.format.proofs.Made.{document-01, decodesTo, said, wrote, refused, pcm}
+use Rattle.format.proofs.Made.{document-01, decodesTo, said, pcm}
 
 abbrev silent : PcmSpec
 silent = record { channels = 2; «bits_per_sample» = 16; «sample_rate» = 0 }
@@ -84,8 +85,8 @@ pub record Encodings : Type 0 where
   pub stereo-back : decodesTo (fileOf (pcm 2 16) Auto (ramp 1026)) (ramp 1026)
   -- 50 last: one byte short, and nothing changed
   pub room : encodeOf (pcm 1 16) Auto (pos 5 ∷ []) 272 ≡ wrote 272
-  pub room-short : encodeOf (pcm 1 16) Auto (pos 5 ∷ []) 271 ≡ refused OutputTooShort
-  pub room-last : encodeOf (pcm 1 16) MidSide [] 0 ≡ refused NotStereo
+  pub room-short : encodeOf (pcm 1 16) Auto (pos 5 ∷ []) 271 ≡ refusedBy OutputTooShort
+  pub room-last : encodeOf (pcm 1 16) MidSide [] 0 ≡ refusedBy NotStereo
   pub kept : encodeInto (pcm 1 16) Auto (pos 5 ∷ []) (replicate 271 7) ≡ replicate 271 7
 
 pub encodings : Encodings

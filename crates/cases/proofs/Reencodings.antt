@@ -4,13 +4,14 @@ use mathlib.Core.Path.{_≡_, refl}
 use mathlib.Core.List.{List, [], _∷_, _++_}
 use lib.ListN.{take, replicate}
 use lib.IntN.{ℤ, pos, negsuc}
+use Rattle.format.specs.Answers.{refusedBy, wrote}
 use Rattle.format.specs.Packed.{packing}
 use Rattle.format.specs.Encoding.{block, fileOf}
 use Rattle.format.specs.Reencoding.{checkReencode, refileOf, reencodeOf, reencodeInto}
 use Rattle.format.specs.declared.refusals.Checked.the-variants.{No}
 use Rattle.format.specs.declared.refusals.Refusal.the-variants.{BitsWord, WidthTooSmall, OutputTooShort}
 use Rattle.format.specs.declared.settings.StereoMode.the-variants.{MidSide}
-use Rattle.format.proofs.Made.{document-01, decodesTo, reencodesTo, said, saidAfter, wrote, refused, pcm, laid, changed, five}
+use Rattle.format.proofs.Made.{document-01, decodesTo, reencodesTo, said, saidAfter, pcm, laid, changed, five}
 
 -- the number that re-encoding says for mono samples, for a stereo frame
 abbrev mono : List ℤ → List ℕ → ℕ
@@ -142,8 +143,8 @@ pub record Reencodings : Type 0 where
   pub lowest-moves : reencodesTo 2 (pos 0 ∷ pos 0 ∷ []) lowest (both (raw 1 (pos 0)) (raw 0 (pos 0)))
   -- 50: the template's length
   pub room : reencodeOf (pcm 1 16) (pos 5 ∷ []) five 272 ≡ wrote 272
-  pub room-short : reencodeOf (pcm 1 16) (pos 5 ∷ []) five 271 ≡ refused OutputTooShort
-  pub room-last : reencodeOf (pcm 1 16) (pos 3 ∷ []) five 0 ≡ refused WidthTooSmall
+  pub room-short : reencodeOf (pcm 1 16) (pos 5 ∷ []) five 271 ≡ refusedBy OutputTooShort
+  pub room-last : reencodeOf (pcm 1 16) (pos 3 ∷ []) five 0 ≡ refusedBy WidthTooSmall
   pub kept : reencodeInto (pcm 1 16) (pos 3 ∷ []) five (replicate 272 7) ≡ replicate 272 7
   pub after : reencodeInto (pcm 1 16) (pos 5 ∷ []) five (replicate 273 7) ≡ five ++ (7 ∷ [])
 

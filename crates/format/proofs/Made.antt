@@ -19,29 +19,17 @@ use Rattle.format.specs.Walking.{checkStep, stepSamples, isLeft, checkSt
 use Rattle.format.specs.Encoding.{channel, plain, padded, split, differences, least, width, head0, block, blockOf, blocks, mid, side, midSide, equalParity, parity, takesMid, groupOf, groupIn, groupAt, header, tableOf, assembled, fileOf, checkSpec, checkEncoder, checkSamples, isMidSide, checkStereo, checkSize, checkEncode, checkEncodeInto, encodeOf, encodeInto}
 use Rattle.format.specs.Reencoding.{newValues, valuesFor, baseFor, newBlock, checkNewBlock, activeIn, checkNewGroup, newGroup, checkSame, checkBounds, checkRising, checkTemplate, checkReencoder, checkReencode, checkReencodeInto, refileOf, reencodeOf, reencodeInto}
 use Rattle.format.specs.Boundary.{samplesFrom, sampleBytes, isMode, modeOf, checkMode, checkBytes, hostOpen, hostDecode, hostDecodeInto, checkHostEncode, hostEncode, hostEncodeInto, checkHostReencode, hostReencode, hostReencodeInto}
-use Rattle.format.specs.declared.refusals.Refusal.{Refusal}
 use Rattle.format.specs.declared.refusals.Checked.{Checked}
 use Rattle.format.specs.declared.refusals.Checked.the-variants.{Fine, No}
 use Rattle.format.specs.declared.settings.PcmSpec.{PcmSpec}
 use Rattle.format.specs.declared.settings.StereoMode.the-variants.{Auto}
-use Rattle.format.specs.declared.answers.Outcome.the-variants.{Read, Wrote, Refused}
-use Rattle.format.specs.declared.answers.Answer.{Answer}
 
 -- every definition of document 01, so that a table unfolds them all by one word
 unfoldable pub document-01 : Unit {0}
 unfolding tab joined from over lastOr pairwise every anyBelow same isIn num digits le numAt signature isSignature fieldsOf groupsOf entry group codes bytes values packing coding widthOf isBeyond rebuilt blockMark isBlock baseOf bitsOf midBit floatBit codingOf sizeOf decoded samplesOf rest floatOf patternOf left right leftRight within depthWord isDepth depthOf framesIn refuse _then_ inOrder checkFields checkOffsets badEntry checkTable checkFirst formatOf checkOpen headerOf openOf isFloat checkBlock checkGroup coded channelsOf woven active groupSamples checkDecode decodedOf checkRoom decodeOf decodeInto checkStep stepSamples isLeft checkStepInto checkWalk stepOf nextOf stepInto channel plain padded split differences least width head0 block blockOf blocks mid side midSide equalParity parity takesMid groupOf groupIn groupAt header tableOf assembled fileOf checkSpec checkEncoder checkSamples isMidSide checkStereo checkSize checkEncode checkEncodeInto encodeOf encodeInto newValues valuesFor baseFor newBlock checkNewBlock activeIn checkNewGroup newGroup checkSame checkBounds checkRising checkTemplate checkReencoder checkReencode checkReencodeInto refileOf reencodeOf reencodeInto samplesFrom sampleBytes isMode modeOf checkMode checkBytes hostOpen hostDecode hostDecodeInto checkHostEncode hostEncode hostEncodeInto checkHostReencode hostReencode hostReencodeInto Ieee.isNan Ieee.ofBits Ieee.toBits Ieee.add Ieee.sub Ieee.sum Ieee.round Ieee.units Ieee.odd Ieee.span Ieee.climb Ieee.size Ieee.neg
 document-01 = tt
 
--- ---- answers, and the number that checks give, 0 where nothing is refused
-
-abbrev pub read : ℕ → Answer
-read n = record { outcome = Read (record { 0 = n }) }
-
-abbrev pub wrote : ℕ → Answer
-wrote n = record { outcome = Wrote n }
-
-abbrev pub refused : Refusal → Answer
-refused r = record { outcome = Refused r }
+-- ---- the number that checks give, 0 where nothing is refused
 
 abbrev pub said : Checked → ℕ
 said Fine = 0

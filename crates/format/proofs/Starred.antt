@@ -5,6 +5,7 @@ use mathlib.Core.Bool.{false}
 use mathlib.Core.List.{List, [], _∷_, _++_}
 use lib.ListN.{length, replicate}
 use lib.IntN.{ℤ, pos, negsuc}
+use Rattle.format.specs.Answers.{refusedBy, wrote}
 use Rattle.format.specs.Numbers.{value}
 use Rattle.format.specs.Header.{fieldsOf}
 use Rattle.format.specs.Packed.{values, packing, rebuilt}
@@ -13,7 +14,7 @@ use Rattle.format.specs.Refusals.{number}
 use Rattle.format.specs.Encoding.{padded, split, differences, width, blocks, mid, side, midSide, takesMid, groupOf, fileOf, encodeOf, encodeInto}
 use Rattle.format.specs.declared.refusals.Refusal.the-variants.{ParityDiffers}
 use Rattle.format.specs.declared.settings.StereoMode.the-variants.{Auto, MidSide}
-use Rattle.format.proofs.Made.{document-01, wrote, refused, pcm, five}
+use Rattle.format.proofs.Made.{document-01, pcm, five}
 
 -- the whole file: 124 bytes
 abbrev emptyFile : List ℕ
@@ -74,7 +75,7 @@ pub record Starred : Type 0 where
   -- pair (3, 5), pair (3, 4)
   pub pair-mid : mid (pos 3) (pos 5) ≡ pos 4
   pub pair-side : side (pos 3) (pos 5) ≡ negsuc 0
-  pub pair-odd : encodeOf (pcm 2 16) MidSide (pair (pos 3) (pos 4)) 1000 ≡ refused ParityDiffers
+  pub pair-odd : encodeOf (pcm 2 16) MidSide (pair (pos 3) (pos 4)) 1000 ≡ refusedBy ParityDiffers
   pub parity-number : number ParityDiffers ≡ 35
   -- pair (−32768, 32766)
   pub far-mid : mid (negsuc 32767) (pos 32766) ≡ negsuc 0

@@ -1,15 +1,15 @@
 -- Laws of checks in order.
 use Prim.Native.Nat.{ℕ, zero, suc, _<_}
 use mathlib.Core.Path.{_≡_, refl, sym, ap, ap₂, _∙_, subst}
-use mathlib.Core.Bool.{Bool, true, false}
+use mathlib.Core.Bool.{Bool, true, false, _||_}
 use mathlib.Core.Logic.{⊎-elim}
 use native.Mathlib.Omega.{arith}
 use Rattle.format.specs.Lists.{anyBelow}
-use Rattle.format.specs.Refusals.{refuse, _then_, inOrder}
+use Rattle.format.specs.Refusals.{number, refuse, _then_, inOrder}
 use Rattle.format.specs.declared.refusals.Refusal.{Refusal}
 use Rattle.format.specs.declared.refusals.Checked.{Checked}
 use Rattle.format.specs.declared.refusals.Checked.the-variants.{Fine, No}
-use Rattle.laws.proofs.Tests.{or-left, or-right}
+use Rattle.laws.proofs.Tests.{never, or-left, or-right}
 use Rattle.laws.proofs.Parts.{below-suc}
 
 -- ---- one check, and two
@@ -24,9 +24,19 @@ passed true r e = cc
 passed false r e = refl
 
 infixr 20 _and-then_
-pub _and-then_ : {a b : Checked} → a ≡ Fine → b ≡ Fine → (a then b) ≡ Fine
+pub _and-then_ : {a b c : Checked} → a ≡ Fine → b ≡ c → (a then b) ≡ c
 unfolding _then_
-_and-then_ {a} {b} e f = rw (e, f)
+_and-then_ {a} {b} {c} e f = rw (e, f)
+
+-- the same first check, and the same after it where it passes
+infixr 20 _then-same_
+pub _then-same_ : {a b c d : Checked} → a ≡ b → (b ≡ Fine → c ≡ d) → (a then c) ≡ (b then d)
+unfolding _then_
+_then-same_ {a} {b} {c} {d} e f = ap (λ (x : Checked). x then c) e ∙ by b f
+  where
+    by : (x : Checked) → (x ≡ Fine → c ≡ d) → (x then c) ≡ (x then d)
+    by Fine g = g refl
+    by (No r) g = refl
 
 pub first-fine : (a b : Checked) → (a then b) ≡ Fine → a ≡ Fine
 unfolding _then_
@@ -37,6 +47,34 @@ pub others-fine : (a b : Checked) → (a then b) ≡ Fine → b ≡ Fine
 unfolding _then_
 others-fine Fine b e = e
 others-fine (No r) b e = cc
+
+fine-no : (r : Refusal) → Fine ≡ No r → ⊥
+fine-no r e = let z : true ≡ false = cc in never z
+
+-- ---- which refusal: x is not what c says
+abbrev pub Unsaid : Refusal → Checked → Type 0
+Unsaid x c = c ≡ No x → ⊥
+
+pub unsaid-refuse : (x r : Refusal) (b : Bool) → (number r ≡ number x → ⊥) → Unsaid x (refuse b r)
+unfolding refuse
+unsaid-refuse x r true differ e = let q : r ≡ x = cc in differ (ap number q)
+unsaid-refuse x r false differ e = fine-no x e
+
+pub unsaid-then : (x : Refusal) (a b : Checked) → Unsaid x a → Unsaid x b → Unsaid x (a then b)
+unfolding _then_
+unsaid-then x Fine b p q = q
+unsaid-then x (No r) b p q = p
+
+-- so another check says it
+pub said-after : (x : Refusal) (a b : Checked) → Unsaid x a → (a then b) ≡ No x → (a ≡ Fine) × (b ≡ No x)
+unfolding _then_
+said-after x Fine b p e = (refl, e)
+said-after x (No r) b p e = absurd (p e)
+
+pub said-before : (x : Refusal) (a b : Checked) → Unsaid x b → (a then b) ≡ No x → a ≡ No x
+unfolding _then_
+said-before x Fine b p e = absurd (p e)
+said-before x (No r) b p e = e
 
 -- ---- as many as there are: P n says that Q holds of each k below n
 
@@ -120,3 +158,9 @@ pub order-cong : (p q : ℕ → Checked) (n : ℕ) → ((k : ℕ) → k < n → 
 unfolding inOrder
 order-cong p q zero h = refl
 order-cong p q (suc n) h = ap₂ (λ (a b : Checked). a then b) (order-cong p q n (λ k l. h k (omega arith))) (h n (omega arith))
+
+-- tests that are the same below n
+pub any-cong : (p q : ℕ → Bool) (n : ℕ) → ((k : ℕ) → k < n → p k ≡ q k) → anyBelow p n ≡ anyBelow q n
+unfolding anyBelow
+any-cong p q zero h = refl
+any-cong p q (suc n) h = ap₂ (λ (a b : Bool). a || b) (any-cong p q n (λ k l. h k (omega arith))) (h n (omega arith))

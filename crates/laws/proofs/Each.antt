@@ -3,11 +3,10 @@ use Prim.Native.Nat.{ℕ, zero, suc, _+_, _<_, _≤_}
 use mathlib.Core.Path.{_≡_, sym, ap, ap₂, _∙_}
 use mathlib.Core.Bool.{Bool, true, false, _&&_}
 use mathlib.Core.List.{List, [], _∷_, _++_}
-use native.Mathlib.Omega.{arith}
 use native.Mathlib.Numerals.{add-one}
 use lib.ListN.{length, getD, take, drop, replicate, drop-of-length-le}
 use lib.Seq.{getD-drop, drop-cons}
-use Rattle.format.specs.Lists.{tab, joined, from, every}
+use Rattle.format.specs.Lists.{tab, from, every}
 
 -- P of each element, and of d, which stands past the end
 abbrev pub Each : {A : Type 0} → (A → Type 0) → A → List A → Type 0
@@ -42,11 +41,6 @@ module _ {A : Type 0} (P : A → Type 0) (d : A) (pd : P d) where
   each-replicate zero x h i = pd
   each-replicate (suc n) x h zero = h
   each-replicate (suc n) x h (suc i) = each-replicate n x h i
-
-  pub each-joined : (Q : ℕ → List A) (n : ℕ) → ((k : ℕ) → k < n → Each P d (Q k)) → Each P d (joined Q n)
-  unfolding joined
-  each-joined Q zero h = λ i. pd
-  each-joined Q (suc n) h = each-append (joined Q n) (Q n) (each-joined Q n (λ k l. h k (omega arith))) (h n (omega arith))
 
 -- ---- every element has p: so had all before i, if ok, and so have those from i on
 module _ {A : Type 0} (p : A → Bool) (s : List A) {t : Bool} (i : ℕ) where

@@ -10,15 +10,15 @@ use lib.Pow.{pow-mono, pow-pos}
 use lib.ListN.{length, getD, replicate, take}
 use mir.Syntax.{w32}
 use mir.Val.{SFits}
-use borrow.Author.Tests.{eqb-true}
+use borrow.Author.Tests.{eqb-true, ltb-true}
 use Rattle.format.specs.Lists.{pairwise, every, lastOr}
-use Rattle.format.specs.Numbers.{plus, wrap32}
+use Rattle.format.specs.Numbers.{wrap32, holds}
 use Rattle.format.specs.MidSide.{left, right}
 use Rattle.format.specs.Encoding.{padded, mid, side, equalParity}
 use Rattle.format.specs.declared.settings.SampleFormat.the-variants.{Pcm}
 use Rattle.laws.proofs.Tests.{and-left, and-right}
 use Rattle.laws.proofs.Signs.{Holds, AllHold}
-use Rattle.laws.proofs.Wrap.{wrap-fits, plus-inj}
+use Rattle.laws.proofs.Wrap.{wrap-fits}
 use Rattle.laws.proofs.Up.{up, up-inj, mag-up, up-low, up-high, up-add, up-sub, up-half}
 
 -- the magnitude of a sum and of a difference
@@ -111,14 +111,46 @@ module _ (H : ℕ) (top : H ≤ 2 ^ 31) (l r : ℤ) (f : mag l < H) (g : mag r <
       let e : m -ℤ s ≡ r = up-inj (m -ℤ s) r (omega (arith, mag-sub (2 ^ 31) m s (omega arith) (omega (arith, low-mid)) (omega (arith, low-side)))) (omega arith) (omega (arith, mid-twice, side-twice)) in
       ap wrap32 e ∙ wrap-fits r (record { sfits = omega arith })
 
--- where mid is the half of the sum, side is that of the difference
-pub side-follows : (H : ℕ) → H ≤ 2 ^ 31 → (l r m s : ℤ) → mag l < H → mag r < H → equalParity l r ≡ true → SFits w32 s → mid l r ≡ m → left Pcm m s ≡ l → side l r ≡ s
-unfolding left
-side-follows H top l r m s f g eq fs em el =
-    let a = mid-range H top l r f g in
-    let b = side-range H top l r f g in
-    let q : plus (mid l r) (side l r) ≡ plus (mid l r) s = left-back H top l r f g eq ∙ sym el ∙ ap (λ (x : ℤ). plus x s) (sym em) in
-    plus-inj (mid l r) (side l r) s (record { sfits = omega arith }) (record { sfits = omega arith }) fs q
+-- the half of twice w
+half-twice : (z w : ℤ) → mag z < 2 ^ 38 → mag w < 2 ^ 38 → up z + 2 ^ 40 ≡ up w + up w → quotZ z (pos 2) ≡ w
+half-twice z w f g e =
+    up-inj (quotZ z (pos 2)) w (half-range (2 ^ 38) z (omega arith)) g (omega (arith, up-half z f (omega arith)))
+
+-- mid and side whose sum and difference stay within 32 bits come back from left and right
+module _ (m s : ℤ) (fm : SFits w32 m) (fs : SFits w32 s) (sum : holds 32 (m +ℤ s) ≡ true) (difference : holds 32 (m -ℤ s) ≡ true) where
+  low-sum : mag (m +ℤ s) < 2 ^ 31
+  low-sum = ltb-true (mag (m +ℤ s)) (2 ^ 31) sum
+
+  low-difference : mag (m -ℤ s) < 2 ^ 31
+  low-difference = ltb-true (mag (m -ℤ s)) (2 ^ 31) difference
+
+  left-sum : left Pcm m s ≡ m +ℤ s
+  unfolding left
+  left-sum = wrap-fits (m +ℤ s) (record { sfits = low-sum })
+
+  right-difference : right Pcm m s ≡ m -ℤ s
+  unfolding right
+  right-difference = wrap-fits (m -ℤ s) (record { sfits = low-difference })
+
+  add : up (m +ℤ s) + 2 ^ 40 ≡ up m + up s
+  add = up-add m s (omega (arith, fm .sfits)) (omega (arith, fs .sfits))
+
+  sub : up (m -ℤ s) + up s ≡ up m + 2 ^ 40
+  sub = up-sub m s (omega (arith, fm .sfits)) (omega (arith, fs .sfits))
+
+  pub mid-back : mid (left Pcm m s) (right Pcm m s) ≡ m
+  unfolding mid
+  mid-back =
+      ap₂ mid left-sum right-difference
+      ∙ half-twice ((m +ℤ s) +ℤ (m -ℤ s)) m (omega (arith, mag-add (2 ^ 31) (m +ℤ s) (m -ℤ s) (omega arith) low-sum low-difference)) (omega (arith, fm .sfits))
+      (omega (arith, add, sub, up-add (m +ℤ s) (m -ℤ s) (omega (arith, low-sum)) (omega (arith, low-difference))))
+
+  pub side-back : side (left Pcm m s) (right Pcm m s) ≡ s
+  unfolding side
+  side-back =
+      ap₂ side left-sum right-difference
+      ∙ half-twice ((m +ℤ s) -ℤ (m -ℤ s)) s (omega (arith, mag-sub (2 ^ 31) (m +ℤ s) (m -ℤ s) (omega arith) low-sum low-difference)) (omega (arith, fs .sfits))
+      (omega (arith, add, sub, up-sub (m +ℤ s) (m -ℤ s) (omega (arith, low-sum)) (omega (arith, low-difference))))
 
 -- ---- the same of two channels
 none-equal : (n : ℕ) → 0 ≡ suc n → ⊥

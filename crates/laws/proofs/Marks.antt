@@ -35,7 +35,7 @@ module _ (B : ℕ) where
       ∙ same-digit (num B xs) (num B ys) x y (h 0) (k 0)
 
   -- digits, by a test
-  digits-by : 0 < B → (xs : List ℕ) → every (λ x. ltb x B) xs ≡ true → Below B xs
+  pub digits-by : 0 < B → (xs : List ℕ) → every (λ x. ltb x B) xs ≡ true → Below B xs
   unfolding every
   digits-by h [] e i = h
   digits-by h (x ∷ xs) e zero = ltb-true x B (and-left (ltb x B) (every (λ y. ltb y B) xs) e)

@@ -101,6 +101,10 @@ module _ {A : Type 0} where
       ap (λ (x : List A). x ++ take w (drop (w * n) xs)) (joined-from w xs n) ∙ sym (take-add (w * n) w xs) ∙ ap (λ (k : ℕ). take k xs) (sym (mul-suc w n))
 
 module _ {A : Type 0} where
+  -- behind what was put at the front, what was there stays
+  pub drop-behind : (a l : List A) (n m : ℕ) → length a ≡ n → m ≡ n → drop m (a ++ drop n l) ≡ drop m l
+  drop-behind a l n m e q = ap (λ (x : ℕ). drop x (a ++ drop n l)) q ∙ drop-at a (drop n l) n e ∙ ap (λ (x : ℕ). drop x l) (sym q)
+
   -- ---- parts of parts
   pub from-skip : (a c : List A) (i k n : ℕ) → length a ≡ i → from (i + k) n (a ++ c) ≡ from k n c
   unfolding from

@@ -1,14 +1,14 @@
 -- Two channels as mid and side: they lie in the same range, and left and right come back.
-use Prim.Native.Nat.{ℕ, zero, suc, _-_, _*_, _+_, _/_, _^_, _≤_, _<_}
-use mathlib.Core.Path.{_≡_, refl, sym, ap, ap₂, _∙_}
+use Prim.Native.Nat.{ℕ, zero, suc, _*_, _+_, _/_, _≤_, _<_}
+use mathlib.Core.Path.{_≡_, refl, sym, ap₂, _∙_}
 use mathlib.Core.Bool.{Bool, true, false, _&&_}
 use mathlib.Core.List.{List, [], _∷_, _++_}
 use native.Mathlib.Omega.{arith}
 use lib.ListN.{length, getD, take}
 use lib.Seq.{ext-getD, getD-take, length-take-le}
-use lib.IntN.{ℤ, pos}
-use lib.Pow.{pow-mono}
+use lib.IntN.{ℤ, pos, _+ℤ_, _-ℤ_}
 use Rattle.format.specs.Lists.{tab, pairwise, every}
+use Rattle.format.specs.Numbers.{holds}
 use Rattle.format.specs.MidSide.{left, right, leftRight}
 use Rattle.format.specs.Encoding.{channel, plain, padded, split, mid, side, midSide, equalParity, parity}
 use Rattle.format.specs.declared.settings.SampleFormat.the-variants.{Pcm}
@@ -16,7 +16,7 @@ use Rattle.laws.proofs.Tests.{never}
 use Rattle.laws.proofs.Parts.{length-tab}
 use Rattle.laws.proofs.Signs.{AllHold}
 use Rattle.laws.proofs.Wrap.{Fit}
-use Rattle.laws.proofs.Halves.{Even, length-pairwise, mid-holds, side-holds, lefts-back, rights-back, pairwise-at, even-at, even-padded, side-follows}
+use Rattle.laws.proofs.Halves.{Even, length-pairwise, mid-holds, side-holds, lefts-back, rights-back, pairwise-at, even-padded, mid-back, side-back}
 use Rattle.laws.proofs.Channels.{Level}
 
 -- two channels that b bits hold
@@ -75,23 +75,6 @@ module _ (b n k : ℕ) (high : b ≤ 32) (two : n ≡ 2) (chans : List (List ℤ
         pair (x ∷ y ∷ []) e = refl
         pair (x ∷ y ∷ z ∷ xs) e = absurd (omega arith)
 
-    -- of two lists whose left is l and whose first k mids are theirs, the first k sides are theirs too
-    pub sides-follow : (m s : List ℤ) → k ≤ length s → Fit s → getD (midSide chans) 0 [] ≡ take k m
-        → ((i : ℕ) → i < k → left Pcm (getD m i (pos 0)) (getD s i (pos 0)) ≡ getD l i (pos 0)) → getD (midSide chans) 1 [] ≡ take k s
-    unfolding midSide
-    sides-follow m s long fits mids lefts =
-        let sl = length-pairwise side l r (l-long ∙ sym r-long) ∙ l-long in
-        ext-getD (pos 0) (pairwise side l r) (take k s) (sl ∙ sym (length-take-le k s long))
-        (λ i p. let j : i < k = omega arith in
-        frame side i j
-        ∙ side-follows (2 ^ (b - 1)) (pow-mono {j = 31} (omega arith)) (getD l i (pos 0)) (getD r i (pos 0)) (getD m i (pos 0)) (getD s i (pos 0)) (l-holds i) (r-holds i)
-        (even-at l r i (omega (arith, l-long)) (omega (arith, r-long)) even-frames) (fits i)
-        (sym (frame mid i j) ∙ ap (λ (x : List ℤ). getD x i (pos 0)) mids ∙ getD-take k m i (pos 0) j) (lefts i j)
-        ∙ sym (getD-take k s i (pos 0) j))
-      where
-        frame : (f : ℤ → ℤ → ℤ) (i : ℕ) → i < k → getD (pairwise f l r) i (pos 0) ≡ f (getD l i (pos 0)) (getD r i (pos 0))
-        frame f i j = pairwise-at f l r i (pos 0) (pos 0) (omega (arith, l-long)) (omega (arith, r-long))
-
 -- ---- left and right at frame i
 pub two-channels : (chans : List (List ℤ)) → length (leftRight Pcm chans) ≡ 2
 unfolding leftRight
@@ -108,7 +91,7 @@ module _ (i : ℕ) (chans : List (List ℤ)) (reach : Reach i chans) where
   abbrev s : ℤ
   s = getD (getD chans 1 []) i (pos 0)
 
-  pub left-at : getD (getD (leftRight Pcm chans) 0 []) i (pos 0) ≡ left Pcm m s
+  left-at : getD (getD (leftRight Pcm chans) 0 []) i (pos 0) ≡ left Pcm m s
   unfolding leftRight
   left-at = pairwise-at (left Pcm) (getD chans 0 []) (getD chans 1 []) i (pos 0) (pos 0) (reach 0 (omega arith)) (reach 1 (omega arith))
 
@@ -122,6 +105,44 @@ pub frame-same : (i : ℕ) (xs ys : List (List ℤ)) → Reach i xs → Reach i 
 frame-same i xs ys rx ry e zero q = left-at i xs rx ∙ ap₂ (left Pcm) (e 0 (omega arith)) (e 1 (omega arith)) ∙ sym (left-at i ys ry)
 frame-same i xs ys rx ry e (suc zero) q = right-at i xs rx ∙ ap₂ (right Pcm) (e 0 (omega arith)) (e 1 (omega arith)) ∙ sym (right-at i ys ry)
 frame-same i xs ys rx ry e (suc (suc c)) q = absurd (omega arith)
+
+-- ---- left and right that were read from mid and side, S 0 and S 1
+module _ (S : ℕ → List ℤ) where
+  abbrev midOf : ℕ → ℤ
+  midOf i = getD (S 0) i (pos 0)
+
+  abbrev sideOf : ℕ → ℤ
+  sideOf i = getD (S 1) i (pos 0)
+
+  -- in k frames where neither their sum nor their difference leaves 32 bits
+  module _ (k : ℕ) (reach : (c : ℕ) → c < 2 → k ≤ length (S c)) (fits : (c : ℕ) → c < 2 → Fit (S c))
+      (stay : (i : ℕ) → i < k → (holds 32 (midOf i +ℤ sideOf i) ≡ true) × (holds 32 (midOf i -ℤ sideOf i) ≡ true))
+      (chans : List (List ℤ)) (long : (c : ℕ) → c < 2 → length (getD chans c []) ≡ k)
+      (read : (c i : ℕ) → c < 2 → i < k → getD (getD chans c []) i (pos 0) ≡ getD (getD (leftRight Pcm (tab 2 S)) c []) i (pos 0)) where
+    pairs-kept : (f : ℤ → ℤ → ℤ) (c : ℕ) → c < 2 → ((i : ℕ) → i < k → f (left Pcm (midOf i) (sideOf i)) (right Pcm (midOf i) (sideOf i)) ≡ getD (S c) i (pos 0))
+        → pairwise f (getD chans 0 []) (getD chans 1 []) ≡ take k (S c)
+    unfolding leftRight tab
+    pairs-kept f c q back =
+        let l = getD chans 0 [] in
+        let r = getD chans 1 [] in
+        let ll = long 0 (omega arith) in
+        let rl = long 1 (omega arith) in
+        let n : length (pairwise f l r) ≡ k = length-pairwise f l r (ll ∙ sym rl) ∙ ll in
+        ext-getD (pos 0) (pairwise f l r) (take k (S c)) (n ∙ sym (length-take-le k (S c) (reach c q)))
+        (λ i p. let j : i < k = omega arith in
+        pairwise-at f l r i (pos 0) (pos 0) (omega arith) (omega arith)
+        ∙ ap₂ f (read 0 i (omega arith) j ∙ frame (left Pcm) i j) (read 1 i (omega arith) j ∙ frame (right Pcm) i j)
+        ∙ back i j ∙ sym (getD-take k (S c) i (pos 0) j))
+      where
+        frame : (f : ℤ → ℤ → ℤ) (i : ℕ) → i < k → getD (pairwise f (S 0) (S 1)) i (pos 0) ≡ f (midOf i) (sideOf i)
+        frame f i j = pairwise-at f (S 0) (S 1) i (pos 0) (pos 0) (omega (arith, reach 0 (omega arith))) (omega (arith, reach 1 (omega arith)))
+
+    -- have these as their mid and side
+    pub both-kept : (c : ℕ) → c < 2 → getD (midSide chans) c [] ≡ take k (S c)
+    unfolding midSide
+    both-kept zero q = pairs-kept mid 0 q (λ i p. mid-back (midOf i) (sideOf i) (fits 0 (omega arith) i) (fits 1 (omega arith) i) (stay i p .0) (stay i p .1))
+    both-kept (suc zero) q = pairs-kept side 1 q (λ i p. side-back (midOf i) (sideOf i) (fits 0 (omega arith) i) (fits 1 (omega arith) i) (stay i p .0) (stay i p .1))
+    both-kept (suc (suc c)) q = absurd (omega arith)
 
 -- ---- padding keeps the parity
 abbrev evenPairs : List ℤ → List ℤ → Bool

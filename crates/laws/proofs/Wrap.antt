@@ -83,7 +83,7 @@ rebuilt-back [] f = refl
 rebuilt-back (x ∷ []) f = refl
 rebuilt-back (x ∷ y ∷ xs) f = ap (λ (l : List ℤ). x ∷ l) (ap (λ (z : ℤ). rebuilt z (differences (y ∷ xs))) (difference-back y x (f 1) (f 0)) ∙ rebuilt-back (y ∷ xs) (λ i. f (suc i)))
 
-pub plus-inj : (x d e : ℤ) → SFits w32 x → SFits w32 d → SFits w32 e → plus x d ≡ plus x e → d ≡ e
+plus-inj : (x d e : ℤ) → SFits w32 x → SFits w32 d → SFits w32 e → plus x d ≡ plus x e → d ≡ e
 plus-inj x d e fx fd fe q =
     let a : low32 (x +ℤ d) ≡ low32 (x +ℤ e) = sym (ofZ-toZ w32 _ (record { fits = low-lt (x +ℤ d) })) ∙ ap (ofZ w32) q ∙ ofZ-toZ w32 _ (record { fits = low-lt (x +ℤ e) }) in
     let b : ofZ w32 d ≡ ofZ w32 e = same-low (ofZ w32 x) (ofZ w32 d) (ofZ w32 e) (of-lt x fx) (of-lt d fd) (of-lt e fe) (add-bits x d fx fd ∙ a ∙ sym (add-bits x e fx fe)) in

@@ -1,33 +1,39 @@
--- Re-encoding the same samples with the result gives the result.
+-- The new file serves as template exactly as the old one did.
 use Prim.Native.Nat.{ℕ, _+_, _/_, _≤_, _<_}
-use mathlib.Core.Path.{_≡_, sym, ap, ap₂, _∙_, subst}
-use mathlib.Core.Bool.{not}
-use mathlib.Core.List.{List, []}
+use mathlib.Core.Path.{_≡_, refl, sym, ap, ap₂, _∙_}
+use mathlib.Core.Bool.{Bool, not}
+use mathlib.Core.List.{List, _++_, append-assoc}
 use native.Mathlib.Omega.{arith}
-use lib.ListN.{length, getD, take, drop}
+use lib.ListN.{length, take, drop, length-append}
+use lib.Seq.{take-at, drop-at}
 use lib.IntN.{ℤ}
-use lib.Dec.{leb}
-use borrow.Author.Tests.{le-ltb, lt-leb, eq-eqb}
+use lib.Dec.{ltb, leb, eqb}
 use Rattle.laws.proofs.TemplateFiles as F
 use Rattle.promises.proofs.Refile as R
-use Rattle.format.specs.Lists.{joined}
-use Rattle.format.specs.Numbers.{Below}
+use Rattle.format.specs.Lists.{joined, over}
 use Rattle.format.specs.Header.{fieldsOf, groupsOf, entry, group}
-use Rattle.format.specs.Blocks.{samplesOf}
-use Rattle.format.specs.Refusals.{inOrder}
-use Rattle.format.specs.Decoding.{active}
-use Rattle.format.specs.Encoding.{groupIn}
-use Rattle.format.specs.Reencoding.{activeIn, checkNewGroup, checkSame, checkBounds, checkRising, checkTemplate, checkReencode, refileOf}
-use Rattle.format.specs.declared.refusals.Checked.the-variants.{Fine}
+use Rattle.format.specs.Refusals.{refuse, inOrder}
+use Rattle.format.specs.Answers.{answered, filled}
+use Rattle.format.specs.Encoding.{groupIn, checkSamples}
+use Rattle.format.specs.Reencoding.{checkNewGroup, newGroup, checkSame, checkBounds, checkRising, checkTemplate, checkReencode, checkReencodeInto, refileOf, reencodeOf, reencodeInto}
+use Rattle.format.specs.declared.refusals.Refusal.the-variants.{TooShort, FileSignature, TemplateOffsets, OutputTooShort}
+use Rattle.format.specs.declared.refusals.Checked.{Checked}
+use Rattle.format.specs.declared.refusals.Checked.the-variants.{Fine, No}
 use Rattle.format.specs.declared.settings.PcmSpec.{PcmSpec}
 use Rattle.format.specs.declared.answers.Fields.{Fields}
-use Rattle.laws.proofs.Checks.{pass, _and-then_, in-order, none-below}
-use Rattle.promises.proofs.Bytes.{below-append, below-take, below-drop, below-group, below-joined, below-new-group}
-use Rattle.promises.proofs.NewGroups.{again-group, mid-again}
+use Rattle.format.specs.declared.answers.Outcome.the-variants.{Wrote}
+use Rattle.laws.proofs.Parts.{joined-cong}
+use Rattle.laws.proofs.Checks.{_then-same_, first-fine, order-cong, any-cong}
+use Rattle.laws.proofs.Channels.{group-length}
+use Rattle.promises.proofs.NewGroups.{group-checks-same, group-same}
 
+-- re-encoding accepts s with the template t, and gives t′
 module _ (p : PcmSpec) (s : List ℤ) (t : List ℕ) (ok : checkReencode p s t ≡ Fine) where
   abbrev h : Fields
   h = fieldsOf t
+
+  abbrev n : ℕ
+  n = h .channels
 
   abbrev count : ℕ
   count = groupsOf (h .frames)
@@ -35,53 +41,83 @@ module _ (p : PcmSpec) (s : List ℤ) (t : List ℕ) (ok : checkReencode p s t �
   abbrev t′ : List ℕ
   t′ = refileOf s t
 
-  -- ---- the result as a template
+  -- ---- before the data and after them
+  abbrev fields-same : fieldsOf t′ ≡ h
+  fields-same = R.fields-same p s t ok
+
   entry-kept : (k : ℕ) → k ≤ count → entry t′ h k ≡ entry t h k
   entry-kept k l = R.entry-same p s t ok k l ∙ sym (F.entries-same p s t ok k l)
 
-  rising-again : checkRising t′ h ≡ Fine
+  rising-same : checkRising t′ h ≡ checkRising t h
   unfolding checkRising
-  rising-again =
-      pass _ _ (ap not (eq-eqb (entry t′ h 0) 0 (entry-kept 0 (omega arith) ∙ F.entry-zero p s t (F.template-ok p s t ok))))
-      and-then pass _ _ (ap not (eq-eqb (entry t′ h count) (h .size) (entry-kept count (omega arith) ∙ F.entry-last p s t (F.template-ok p s t ok))))
-      and-then pass _ _ (none-below (λ k. leb (entry t′ h (k + 1)) (entry t′ h k)) count
-      (λ k l. lt-leb (entry t′ h (k + 1)) (entry t′ h k) (omega (arith, entry-kept k (omega arith), entry-kept (k + 1) (omega arith), F.entry-rises p s t (F.template-ok p s t ok) k l))))
+  rising-same =
+      ap (λ (x : ℕ). refuse (not (eqb x 0)) TemplateOffsets) (entry-kept 0 (omega arith))
+      then-same λ a. ap (λ (x : ℕ). refuse (not (eqb x (h .size))) TemplateOffsets) (entry-kept count (omega arith))
+      then-same λ a. ap (λ (b : Bool). refuse b TemplateOffsets) (any-cong _ _ count (λ k l. ap₂ leb (entry-kept (k + 1) (omega arith)) (entry-kept k (omega arith))))
 
-  template-again : checkTemplate p s t′ ≡ Fine
-  unfolding checkTemplate
-  template-again =
-      pass _ _ (le-ltb (length t′) 120 (omega (arith, F.same-length p s t ok, F.long-ok p s t (F.template-ok p s t ok))))
-      and-then pass _ _ (ap not (R.signed-same p s t ok))
-      and-then (ap (checkSame p (length s / p .channels)) (R.fields-same p s t ok) ∙ F.same-ok p s t (F.template-ok p s t ok))
-      and-then (ap₂ checkBounds (R.fields-same p s t ok) (F.same-length p s t ok) ∙ F.bounds-ok p s t (F.template-ok p s t ok))
-      and-then (ap (checkRising t′) (R.fields-same p s t ok) ∙ rising-again)
+  front-kept : take (h .start) t′ ≡ take (h .start) t
+  front-kept = ap (take (h .start)) (F.file-is p s t ok) ∙ take-at (F.front p s t ok) (joined (F.part p s t ok) count ++ F.back p s t ok) (h .start) (F.front-length p s t ok)
 
-  group-again : (g : ℕ) → g < count → checkNewGroup (h .depth) (h .channels) (group t′ h g) (groupIn (h .channels) s g) ≡ Fine
-  group-again g l = ap (λ (b : List ℕ). checkNewGroup (h .depth) (h .channels) b (groupIn (h .channels) s g)) (R.group-new p s t ok g l) ∙ again-group (R.accepted p s t ok g l)
+  back-kept : drop (h .start + h .size) t′ ≡ drop (h .start + h .size) t
+  back-kept =
+      let front = F.front p s t ok in
+      let parts = joined (F.part p s t ok) count in
+      let back = F.back p s t ok in
+      ap (drop (h .start + h .size)) (F.file-is p s t ok ∙ sym (append-assoc front parts back))
+      ∙ drop-at (front ++ parts) back (h .start + h .size) (length-append front parts ∙ omega (arith, F.front-length p s t ok, F.size-is p s t ok))
 
-  -- re-encoding the same samples accepts the result as a template
-  pub accepted-again : checkReencode p s t′ ≡ Fine
-  unfolding checkReencode
-  accepted-again =
-      F.writer-ok p s t ok and-then F.samples-ok p s t ok and-then template-again
-      and-then (ap (λ (x : Fields). inOrder (λ g. checkNewGroup (x .depth) (x .channels) (group t′ x g) (groupIn (x .channels) s g)) (groupsOf (x .frames))) (R.fields-same p s t ok)
-      ∙ in-order (λ g. checkNewGroup (h .depth) (h .channels) (group t′ h g) (groupIn (h .channels) s g)) count group-again)
+  -- ---- with any settings and samples
+  module _ (q : PcmSpec) (z : List ℤ) where
+    template-same : checkTemplate q z t′ ≡ checkTemplate q z t
+    unfolding checkTemplate
+    template-same =
+        ap (λ (x : ℕ). refuse (ltb x 120) TooShort) (F.same-length p s t ok)
+        then-same λ a. ap (λ (b : Bool). refuse (not b) FileSignature) (R.signed-same p s t ok ∙ sym (F.signed-ok p s t (F.template-ok p s t ok)))
+        then-same λ a. ap (checkSame q (length z / q .channels)) fields-same
+        then-same λ a. ap₂ checkBounds fields-same (F.same-length p s t ok)
+        then-same λ a. ap (checkRising t′) fields-same ∙ rising-same
 
-  -- ---- of bytes
-  module _ (byte : Below 256 t) where
-    bytes-same : Below 256 t′
-    bytes-same =
-        subst (Below 256) (sym (F.file-is p s t ok))
-        (below-append (take (h .start) t) _ (below-take t byte (h .start))
-        (below-append (joined (F.part p s t ok) count) (drop (h .start + h .size) t)
-        (below-joined (F.part p s t ok) count (λ g l. below-new-group (h .depth) (h .channels) (group t h g) (groupIn (h .channels) s g) (below-group t byte h g)))
-        (below-drop t byte (h .start + h .size))))
+    -- where the template has as many frames as z, each group of z is as long as that of s
+    parts-long : checkTemplate q z t ≡ Fine → checkSamples q z ≡ Fine → (g : ℕ) → g < count → length (groupIn n z g) ≡ length (groupIn n s g)
+    parts-long template samples g l = group-length n (h .frames) z (F.all-frames q z t template samples) g ∙ sym (R.accepted p s t ok g l .long)
 
-    mids-again : R.MidKept s t′ h
-    mids-again g l m =
-        subst (λ (b : List ℕ). getD (activeIn (h .channels) b (groupIn (h .channels) s g)) 0 [] ≡ take (active (h .frames) g) (samplesOf (h .depth) b)) (sym (R.group-new p s t ok g l))
-        (mid-again (R.accepted p s t ok g l))
+    -- re-encoding refuses with the new file as with the old one
+    pub same-checks : checkReencode q z t′ ≡ checkReencode q z t
+    unfolding checkReencode
+    same-checks =
+        refl
+        then-same λ a. refl
+        then-same λ samples. template-same
+        then-same λ template. ap (λ (x : Fields). inOrder (λ g. checkNewGroup (x .depth) (x .channels) (group t′ x g) (groupIn (x .channels) z g)) (groupsOf (x .frames))) fields-same
+        ∙ order-cong _ _ count
+        (λ g l. ap (λ (b : List ℕ). checkNewGroup (h .depth) n b (groupIn n z g)) (R.group-new p s t ok g l)
+        ∙ group-checks-same (R.accepted p s t ok g l) (groupIn n z g) (parts-long template samples g l))
 
-    -- and gives it back
-    pub once-more : refileOf s t′ ≡ t′
-    once-more = R.template-kept p s t′ accepted-again bytes-same (sym (R.gives-back p s t ok)) (subst (R.MidKept s t′) (sym (R.fields-same p s t ok)) mids-again)
+    -- and gives the same
+    pub same-file : checkReencode q z t ≡ Fine → refileOf z t′ ≡ refileOf z t
+    unfolding refileOf
+    same-file fine =
+        ap (λ (x : Fields). take (x .start) t′ ++ (joined (λ g. newGroup (x .depth) (x .channels) (group t′ x g) (groupIn (x .channels) z g)) (groupsOf (x .frames)) ++ drop (x .start + x .size) t′)) fields-same
+        ∙ ap₂ (λ (x y : List ℕ). x ++ (joined (λ g. newGroup (h .depth) n (group t′ h g) (groupIn n z g)) count ++ y)) front-kept back-kept
+        ∙ ap (λ (x : List ℕ). take (h .start) t ++ (x ++ drop (h .start + h .size) t))
+        (joined-cong _ _ count
+        (λ g l. ap (λ (b : List ℕ). newGroup (h .depth) n b (groupIn n z g)) (R.group-new p s t ok g l)
+        ∙ group-same (R.accepted p s t ok g l) (groupIn n z g) (parts-long (F.template-ok q z t fine) (F.samples-ok q z t fine) g l)))
+
+    -- ---- so re-encoding answers the same, and leaves the same
+    into-same : (room : ℕ) → checkReencodeInto q z t′ room ≡ checkReencodeInto q z t room
+    unfolding checkReencodeInto
+    into-same room = same-checks then-same λ a. ap (λ (x : ℕ). refuse (ltb room x) OutputTooShort) (F.same-length p s t ok)
+
+    pub says-same : (room : ℕ) → reencodeOf q z t′ room ≡ reencodeOf q z t room
+    unfolding reencodeOf
+    says-same room = ap₂ (λ (c : Checked) (x : ℕ). answered c (Wrote x)) (into-same room) (F.same-length p s t ok)
+
+    pub leaves-same : (lent : List ℕ) → reencodeInto q z t′ lent ≡ reencodeInto q z t lent
+    unfolding reencodeInto checkReencodeInto
+    leaves-same lent =
+        ap (λ (c : Checked). filled c (refileOf z t′) lent) (into-same (length lent)) ∙ by (checkReencodeInto q z t (length lent)) refl
+      where
+        by : (c : Checked) → checkReencodeInto q z t (length lent) ≡ c → filled c (refileOf z t′) lent ≡ filled c (refileOf z t) lent
+        by Fine e = ap (λ (f : List ℕ). over f lent) (same-file (first-fine _ _ e))
+        by (No r) e = refl

@@ -1,36 +1,33 @@
 -- A template's block with its own samples is the template's block.
 use Prim.Native.Nat.{ℕ, zero, suc, _+_, _-_, _*_, _^_, _≤_, _<_, min}
 use mathlib.Core.Path.{_≡_, refl, sym, ap, ap₂, _∙_, subst}
-use mathlib.Core.Bool.{true, false, not}
+use mathlib.Core.Bool.{false}
 use mathlib.Core.List.{List, [], _∷_, _++_, map}
 use native.Mathlib.Omega.{arith}
-use lib.ListN.{length, getD, take, drop, take-append-drop, length-append, length-drop, List·getD-map}
-use lib.Seq.{take-at, length-take-le}
+use lib.ListN.{length, getD, take, drop, take-append-drop, length-drop, List·getD-map}
+use lib.Seq.{length-take-le}
 use lib.IntN.{ℤ, pos}
 use lib.Pow.{pow-pos}
 use mir.Syntax.{w32}
 use mir.Val.{SFits}
-use borrow.Author.Tests.{le-ltb, ne-eqb}
-use Rattle.format.specs.Lists.{from, every}
-use Rattle.format.specs.Numbers.{num, Below, le, numAt, value, codeOf, holds}
+use Rattle.format.specs.Lists.{from}
+use Rattle.format.specs.Numbers.{num, Below, le, numAt, value, codeOf}
 use Rattle.format.specs.Packed.{widthOf, codes, values, packing, rebuilt, isBeyond}
 use Rattle.format.specs.declared.packed.Coding.{Coding}
 use Rattle.format.specs.declared.packed.Coding.the-variants.{Differences, Raw, Beyond}
 use Rattle.format.specs.Blocks.{baseOf, bitsOf, codingOf, sizeOf, decoded, samplesOf}
 use Rattle.format.specs.Encoding.{differences, head0}
-use Rattle.format.specs.Reencoding.{newValues, valuesFor, baseFor, newBlock, checkNewBlock}
-use Rattle.format.specs.declared.refusals.Checked.the-variants.{Fine}
+use Rattle.format.specs.Reencoding.{newValues, valuesFor, baseFor, newBlock}
 use Rattle.laws.proofs.Lengths.{length-values}
 use Rattle.laws.proofs.Tests.{never}
 use Rattle.laws.proofs.Parts.{length-from, meet}
-use Rattle.laws.proofs.Checks.{pass, _and-then_}
 use Rattle.laws.proofs.Digits.{num-lt, le-num, codes-low}
-use Rattle.laws.proofs.Signs.{AllHold, code-value, value-pos, value-holds, packing-values, holds-every}
+use Rattle.laws.proofs.Signs.{AllHold, code-value, value-pos, value-holds, packing-values}
 use Rattle.laws.proofs.Wrap.{Fit, differences-rebuilt}
 use Rattle.laws.proofs.Templates.{Template}
 use Rattle.laws.proofs.Widths.{width-some, width-most}
 use Rattle.promises.proofs.BlockLaws.{fit}
-use Rattle.promises.proofs.NewBlocks.{value-fits, new-raw, new-differences, rebuilt-fit, word-same, new-reads}
+use Rattle.promises.proofs.NewBlocks.{value-fits, new-raw, new-differences, rebuilt-fit}
 use Rattle.promises.proofs.Bytes.{below-from}
 
 values-hold : (b : ℕ) (s : List ℕ) → 1 ≤ b → AllHold b (values b s)
@@ -136,33 +133,3 @@ pub samples-fit : (depth : ℕ) (r : List ℕ) → 1 ≤ depth → depth ≤ 32 
 unfolding samplesOf baseOf codingOf
 samples-fit depth r l u e =
     decoded-fit (baseOf r) (value-fits (numAt 4 4 r)) (drop 16 r) (codingOf depth r) e (width-some depth (bitsOf r) l e) (width-most depth (bitsOf r) u e)
-
--- ---- a block that holds the samples at its front is wide enough for them
-pub own-fits : (depth : ℕ) (r : List ℕ) (xs : List ℤ) → 1 ≤ depth → depth ≤ 32 → isBeyond (codingOf depth r) ≡ false → 1 ≤ length xs
-    → xs ≡ take (length xs) (samplesOf depth r) → every (holds (widthOf (codingOf depth r))) (valuesFor depth r xs) ≡ true
-unfolding valuesFor samplesOf baseOf codingOf
-own-fits depth r xs low high e some own =
-    let c = codingOf depth r in
-    let l = width-some depth (bitsOf r) low e in
-    ap (every (holds (widthOf c))) (values-kept (baseOf r) (value-fits (numAt 4 4 r)) (drop 16 r) xs some c e l (width-most depth (bitsOf r) high e) own)
-    ∙ holds-every (widthOf c) (values (widthOf c) (take (64 * widthOf c) (drop 16 r))) (values-hold (widthOf c) (take (64 * widthOf c) (drop 16 r)) l)
-
--- the new block is accepted as a template's, with the same samples
-pub again-block : (depth : ℕ) → 1 ≤ depth → depth ≤ 32 → (r : List ℕ) (xs : List ℤ) → 1 ≤ length xs → length xs ≤ 512 → Fit xs → Template depth r xs → (t : List ℕ)
-    → checkNewBlock depth (newBlock depth r xs ++ t) xs ≡ Fine
-unfolding checkNewBlock numAt
-again-block depth low high r xs some lx fx ok t =
-    let q = new-reads depth low r xs some lx fx ok in
-    let nb = newBlock depth r xs ++ t in
-    let n : length nb ≡ length (newBlock depth r xs) + length t = length-append (newBlock depth r xs) t in
-    let f : numAt 10 2 nb ≡ numAt 10 2 r = q .flags-word t in
-    let w : numAt 8 2 nb ≡ numAt 8 2 r = ap (num 256) (word-same depth low r xs some lx fx ok t 0 2 (omega arith)) in
-    let own : xs ≡ take (length xs) (samplesOf depth nb) = sym (ap (take (length xs)) (q .samples t) ∙ take-at xs (drop (length xs) (samplesOf depth r)) (length xs) refl) in
-    pass _ _ (le-ltb (length nb) 16 (omega (arith, q .long)))
-    and-then pass _ _ (ap not (q .mark t))
-    and-then pass _ _ (ne-eqb (numAt 8 2 nb) 0 (λ e. omega (arith, ok .bits)))
-    and-then pass _ _ (ne-eqb (numAt 8 2 nb) 1 (λ e. omega (arith, ok .bits)))
-    and-then pass _ _ (le-ltb 1 (numAt 10 2 nb) (omega (arith, ok .flags)))
-    and-then pass _ _ (q .within t)
-    and-then pass _ _ (le-ltb (length nb) (sizeOf depth nb) (omega (arith, q .size t)))
-    and-then pass _ _ (ap not (own-fits depth nb xs low high (q .within t) some own))

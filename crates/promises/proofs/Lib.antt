@@ -5,9 +5,14 @@ pub mod GroupLaws
 pub mod GroupCoding
 pub mod Laid
 pub mod FileLaws
+-- what an outcome tells
+pub mod Outcomes
 -- encoding, then decoding
 pub mod RoundTrip
--- re-encoding: a block, a group, a file, and once more
+-- what is asked of a template that its own samples should keep, and why
+pub mod MidSums
+pub mod Premise
+-- re-encoding: a block, a group, a file, and that file as a template
 pub mod NewBlocks
 pub mod Bytes
 pub mod Kept
@@ -17,3 +22,6 @@ pub mod Again
 -- the walk; parity
 pub mod WalkLaws
 pub mod ParityLaws
+-- the demands
+pub mod Demands
+pub mod Certain

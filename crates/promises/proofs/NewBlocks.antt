@@ -1,7 +1,7 @@
 -- A template's block with new samples reads as those samples, and then the template's.
 use Prim.Native.Nat.{ℕ, zero, suc, _+_, _-_, _*_, _≤_, _<_, min}
 use mathlib.Core.Path.{_≡_, refl, sym, ap, ap₂, _∙_, subst}
-use mathlib.Core.Bool.{Bool, true, false, cond}
+use mathlib.Core.Bool.{Bool, true, false, cond, not}
 use mathlib.Core.List.{List, [], _∷_, _++_, append-nil, append-assoc}
 use mathlib.Core.Logic.{⊎-elim}
 use native.Mathlib.Omega.{arith}
@@ -12,21 +12,23 @@ use lib.Dec.{ltb}
 use mir.Syntax.{w32}
 use mir.Val.{SFits}
 use borrow.Author.Tests.{ltb-true, ltb-false}
-use Rattle.format.specs.Lists.{from, same}
-use Rattle.format.specs.Numbers.{num, numAt, value, codeOf, plus}
+use Rattle.format.specs.Lists.{from, every, same}
+use Rattle.format.specs.Numbers.{num, numAt, value, codeOf, holds, plus}
 use Rattle.format.specs.Packed.{coding, widthOf, values, packing, rebuilt, isBeyond}
 use Rattle.format.specs.declared.packed.Coding.{Coding}
 use Rattle.format.specs.declared.packed.Coding.the-variants.{Differences, Raw, Beyond}
 use Rattle.format.specs.Blocks.{blockMark, isBlock, baseOf, bitsOf, codingOf, sizeOf, decoded, samplesOf}
+use Rattle.format.specs.Refusals.{refuse}
 use Rattle.format.specs.Encoding.{differences, head0}
-use Rattle.format.specs.Reencoding.{newValues, valuesFor, baseFor, newBlock}
+use Rattle.format.specs.Reencoding.{newValues, valuesFor, baseFor, newBlock, checkNewBlock}
+use Rattle.format.specs.declared.refusals.Refusal.the-variants.{WidthTooSmall}
 use Rattle.laws.proofs.Lengths.{length-values, length-rebuilt}
 use Rattle.laws.proofs.Tests.{never}
-use Rattle.laws.proofs.Parts.{below-suc, from-skip, from-within, from-front, from-from, length-from}
+use Rattle.laws.proofs.Parts.{below-suc, drop-behind, from-skip, from-within, from-front, from-from, length-from}
 use Rattle.laws.proofs.Digits.{num-le}
 use Rattle.laws.proofs.Signs.{Holds, AllHold, code-lt, value-code, values-packing, length-packing}
 use Rattle.laws.proofs.Wrap.{Fit, difference-back, wrap-is}
-use Rattle.laws.proofs.Templates.{Template, base-4, new-length}
+use Rattle.laws.proofs.Templates.{Template, fit-decides, base-4, new-length}
 use Rattle.laws.proofs.Widths.{width-some}
 use Rattle.promises.proofs.BlockLaws.{Reads, length-differences}
 
@@ -144,8 +146,25 @@ pub new-differences : (b : ℕ) (old : List ℤ) (run : List ℕ) (xs : List ℤ
 unfolding newValues
 new-differences b old run xs = refl
 
+-- a block with the new base gives other samples the base that the template gives them
+base-again : (k : Coding) (u r : List ℕ) (xs ys : List ℤ) → from 4 4 u ≡ baseFor k r xs → baseFor k u ys ≡ baseFor k r ys
+unfolding baseFor
+base-again (Differences b) u r xs ys e = refl
+base-again (Raw b) u r xs ys e = e
+base-again Beyond u r xs ys e = e
+
 -- what is packed anew, read with what was coded so
-module _ (base : ℤ) (sb : SFits w32 base) (run t : List ℕ) where
+module _ (base : ℤ) (run t : List ℕ) where
+  -- as many differences are new as samples, but for the last
+  new-some : (b : ℕ) (xs : List ℤ) → length xs ≤ 512 → let m = min (length xs) 511 in length (take m (differences (xs ++ drop (length xs) (rebuilt base (values b (take (64 * b) run)))))) ≡ m
+  new-some b xs lx =
+      let vs = values b (take (64 * b) run) in
+      let old = rebuilt base vs in
+      let ys = xs ++ drop (length xs) old in
+      let o : length old ≡ 512 = length-rebuilt base vs ∙ length-values b (take (64 * b) run) in
+      let y : length ys ≡ 512 = length-append xs (drop (length xs) old) ∙ omega (arith, length-drop (length xs) old) in
+      length-take-le (min (length xs) 511) (differences ys) (omega (arith, length-differences ys))
+
   new-512 : (xs : List ℤ) → length xs ≤ 512 → (k : Coding) → isBeyond k ≡ false → length (newValues k (decoded k base run) run xs) ≡ 512
   unfolding newValues isBeyond decoded
   new-512 xs lx (Raw b) e =
@@ -154,32 +173,55 @@ module _ (base : ℤ) (sb : SFits w32 base) (run t : List ℕ) where
   new-512 xs lx (Differences b) e =
       let vs = values b (take (64 * b) run) in
       let n = min (length xs) 511 in
-      let ys = xs ++ drop (length xs) (rebuilt base vs) in
       let v = length-values b (take (64 * b) run) in
-      let y : length ys ≡ 512 = length-append xs (drop (length xs) (rebuilt base vs)) ∙ omega (arith, length-drop (length xs) (rebuilt base vs), length-rebuilt base vs) in
-      let d : length (take n (differences ys)) ≡ n = length-take-le n (differences ys) (omega (arith, length-differences ys)) in
-      length-append (take n (differences ys)) (drop n vs) ∙ omega (arith, length-drop n vs)
+      length-append (take n (differences (xs ++ drop (length xs) (rebuilt base vs)))) (drop n vs) ∙ omega (arith, new-some b xs lx, length-drop n vs)
   new-512 xs lx Beyond e = never e
 
-  decode-new : (xs : List ℤ) → 1 ≤ length xs → length xs ≤ 512 → Fit xs → (k : Coding) (r : List ℕ) → isBeyond k ≡ false → 1 ≤ widthOf k
-      → AllHold (widthOf k) (newValues k (decoded k base run) run xs)
-      → decoded k (value 32 (num 256 (baseFor k r xs))) (packing (widthOf k) (newValues k (decoded k base run) run xs) ++ t) ≡ xs ++ drop (length xs) (decoded k base run)
+  -- xs were put into it
+  module _ (xs : List ℤ) (lx : length xs ≤ 512) where
+    abbrev new : Coding → List ℤ
+    new k = newValues k (decoded k base run) run xs
+
+    -- the new values are read back
+    new-back : (k : Coding) → isBeyond k ≡ false → 1 ≤ widthOf k → AllHold (widthOf k) (new k) → values (widthOf k) (take (64 * widthOf k) (packing (widthOf k) (new k) ++ t)) ≡ new k
+    new-back k e w h =
+        let b = widthOf k in
+        ap (values b) (take-at (packing b (new k)) t (64 * b) (length-packing b (new k))) ∙ values-packing b w (new k) (new-512 xs lx k e) h
+
+    -- other samples, as many, give the values that they gave before
+    values-again : (zs : List ℤ) → length zs ≡ length xs → (k : Coding) → isBeyond k ≡ false → 1 ≤ widthOf k → AllHold (widthOf k) (new k)
+        → newValues k (xs ++ drop (length xs) (decoded k base run)) (packing (widthOf k) (new k) ++ t) zs ≡ newValues k (decoded k base run) run zs
+    unfolding decoded isBeyond widthOf
+    values-again zs q (Raw b) e w h =
+        let vs = values b (take (64 * b) run) in
+        new-raw b (xs ++ drop (length xs) vs) (packing b (new (Raw b)) ++ t) zs
+        ∙ ap (λ (l : List ℤ). zs ++ drop (length zs) l) (new-back (Raw b) refl w h ∙ new-raw b vs run xs)
+        ∙ ap (λ (l : List ℤ). zs ++ l) (drop-behind xs vs (length xs) (length zs) refl q)
+        ∙ sym (new-raw b vs run zs)
+    values-again zs q (Differences b) e w h =
+        let vs = values b (take (64 * b) run) in
+        let old = rebuilt base vs in
+        let n = min (length xs) 511 in
+        let m = min (length zs) 511 in
+        let f : m ≡ n = ap (λ (x : ℕ). min x 511) q in
+        new-differences b (xs ++ drop (length xs) old) (packing b (new (Differences b)) ++ t) zs
+        ∙ ap₂ (λ (o l : List ℤ). take m (differences (zs ++ o)) ++ l) (drop-behind xs old (length xs) (length zs) refl q)
+        (ap (drop m) (new-back (Differences b) refl w h ∙ new-differences b old run xs) ∙ drop-behind (take n (differences (xs ++ drop (length xs) old))) vs n m (new-some b xs lx) f)
+        ∙ sym (new-differences b old run zs)
+    values-again zs q Beyond e w h = never e
+
+  decode-new : SFits w32 base → (xs : List ℤ) → 1 ≤ length xs → (lx : length xs ≤ 512) → Fit xs → (k : Coding) (r : List ℕ) → isBeyond k ≡ false → 1 ≤ widthOf k → AllHold (widthOf k) (new xs lx k)
+      → decoded k (value 32 (num 256 (baseFor k r xs))) (packing (widthOf k) (new xs lx k) ++ t) ≡ xs ++ drop (length xs) (decoded k base run)
   unfolding decoded isBeyond widthOf baseFor head0
-  decode-new xs some lx fx (Raw b) r e w h =
-      let new = newValues (Raw b) (values b (take (64 * b) run)) run xs in
-      ap (values b) (take-at (packing b new) t (64 * b) (length-packing b new))
-      ∙ values-packing b w new (new-512 xs lx (Raw b) refl) h
-      ∙ new-raw b (values b (take (64 * b) run)) run xs
-  decode-new [] some lx fx (Differences b) r e w h = absurd (omega arith)
-  decode-new (x ∷ xs) some lx fx (Differences b) r e w h =
+  decode-new sb xs some lx fx (Raw b) r e w h = new-back xs lx (Raw b) refl w h ∙ new-raw b (values b (take (64 * b) run)) run xs
+  decode-new sb [] some lx fx (Differences b) r e w h = absurd (omega arith)
+  decode-new sb (x ∷ xs) some lx fx (Differences b) r e w h =
       let vs = values b (take (64 * b) run) in
-      let new = newValues (Differences b) (rebuilt base vs) run (x ∷ xs) in
       let small : Holds 32 x = fx 0 .sfits in
-      ap₂ (λ (z : ℤ) (l : List ℕ). rebuilt z (values b l)) (ap (value 32) (num-le 4 (codeOf 32 x) (code-lt 32 (omega arith) x small)) ∙ value-code 32 (omega arith) x small)
-      (take-at (packing b new) t (64 * b) (length-packing b new))
-      ∙ ap (rebuilt x) (values-packing b w new (new-512 (x ∷ xs) lx (Differences b) refl) h ∙ new-differences b (rebuilt base vs) run (x ∷ xs))
+      ap₂ rebuilt (ap (value 32) (num-le 4 (codeOf 32 x) (code-lt 32 (omega arith) x small)) ∙ value-code 32 (omega arith) x small)
+      (new-back (x ∷ xs) lx (Differences b) refl w h ∙ new-differences b (rebuilt base vs) run (x ∷ xs))
       ∙ spliced base vs x xs sb (length-values b (take (64 * b) run)) lx fx
-  decode-new xs some lx fx Beyond r e w h = never e
+  decode-new sb xs some lx fx Beyond r e w h = never e
 
 -- ---- the template's block that r begins with, with the active samples xs
 module _ (depth : ℕ) (low : 1 ≤ depth) (r : List ℕ) (xs : List ℤ) (some : 1 ≤ length xs) (lx : length xs ≤ 512) (fx : Fit xs) (ok : Template depth r xs) where
@@ -209,7 +251,7 @@ module _ (depth : ℕ) (low : 1 ≤ depth) (r : List ℕ) (xs : List ℤ) (some 
   long-is = new-length depth r xs (ok .head)
 
   -- bytes 8 to 15 stay
-  pub word-same : (t : List ℕ) (k n : ℕ) → k + n ≤ 8 → from (4 + (4 + k)) n (newBlock depth r xs ++ t) ≡ from (8 + k) n r
+  word-same : (t : List ℕ) (k n : ℕ) → k + n ≤ 8 → from (4 + (4 + k)) n (newBlock depth r xs ++ t) ≡ from (8 + k) n r
   unfolding newBlock
   word-same t k n h = part-word (take 4 r) base (from 8 8 r) pk la lb lw t k n h ∙ from-from k n 8 8 r h (ok .head)
 
@@ -217,9 +259,9 @@ module _ (depth : ℕ) (low : 1 ≤ depth) (r : List ℕ) (xs : List ℤ) (some 
   unfolding codingOf bitsOf numAt
   coding-same t = ap (λ (l : List ℕ). coding depth (value 16 (num 256 l))) (word-same t 0 2 (omega arith))
 
-  base-new : (t : List ℕ) → baseOf (newBlock depth r xs ++ t) ≡ value 32 (num 256 base)
-  unfolding baseOf numAt newBlock
-  base-new t = ap (λ (l : List ℕ). value 32 (num 256 l)) (part-base (take 4 r) base (from 8 8 r) pk la lb lw t)
+  base-new : (t : List ℕ) → from 4 4 (newBlock depth r xs ++ t) ≡ base
+  unfolding newBlock
+  base-new t = part-base (take 4 r) base (from 8 8 r) pk la lb lw t
 
   run-new : (t : List ℕ) → drop 16 (newBlock depth r xs ++ t) ≡ pk ++ t
   unfolding newBlock
@@ -241,6 +283,46 @@ module _ (depth : ℕ) (low : 1 ≤ depth) (r : List ℕ) (xs : List ℤ) (some 
         within = λ t. ap isBeyond (coding-same t) ∙ ok .within;
         samples = λ t.
             ap (λ (k : Coding). decoded k (baseOf (newBlock depth r xs ++ t)) (drop 16 (newBlock depth r xs ++ t))) (coding-same t)
-            ∙ ap₂ (decoded c) (base-new t) (run-new t)
-            ∙ decode-new (baseOf r) (value-fits (numAt 4 4 r)) (drop 16 r) t xs some lx fx c r (ok .within) wide (ok .fit);
+            ∙ ap₂ (λ (l : List ℕ). decoded c (value 32 (num 256 l))) (base-new t) (run-new t)
+            ∙ decode-new (baseOf r) (drop 16 r) t (value-fits (numAt 4 4 r)) xs some lx fx c r (ok .within) wide (ok .fit);
       }
+
+  -- ---- the new block as a template's, with other samples, as many
+  module _ (t : List ℕ) where
+    abbrev again : List ℕ
+    again = newBlock depth r xs ++ t
+
+    pub values-same : (zs : List ℤ) → length zs ≡ length xs → valuesFor depth again zs ≡ valuesFor depth r zs
+    unfolding valuesFor samplesOf
+    values-same zs q =
+        ap (λ (k : Coding). newValues k (samplesOf depth again) (drop 16 again) zs) (coding-same t)
+        ∙ ap₂ (λ (o : List ℤ) (l : List ℕ). newValues c o l zs) (new-reads .samples t) (run-new t)
+        ∙ values-again (baseOf r) (drop 16 r) t xs lx zs q c (ok .within) wide (ok .fit)
+
+    pub block-same : (zs : List ℤ) → length zs ≡ length xs → newBlock depth again zs ≡ newBlock depth r zs
+    unfolding newBlock
+    block-same zs q =
+        ap (λ (k : Coding). take 4 again ++ (baseFor k again zs ++ (from 8 8 again ++ packing (widthOf k) (valuesFor depth again zs)))) (coding-same t)
+        ∙ ap₂ (λ (a b : List ℕ). a ++ (b ++ (from 8 8 again ++ packing (widthOf c) (valuesFor depth again zs)))) (mark-same t) (base-again c again r xs zs (base-new t))
+        ∙ ap₂ (λ (w : List ℕ) (vs : List ℤ). take 4 r ++ (baseFor c r zs ++ (w ++ packing (widthOf c) vs))) (word-same t 0 8 (omega arith)) (values-same zs q)
+
+    -- it passed as one with xs
+    new-template : Template depth again xs
+    unfolding numAt
+    new-template =
+        let a = length-append (newBlock depth r xs) t in
+        record {
+          head = omega (arith, new-reads .long);
+          mark = new-reads .mark t;
+          bits = subst (λ (l : List ℕ). 2 ≤ num 256 l) (sym (word-same t 0 2 (omega arith))) (ok .bits);
+          flags = rw (new-reads .flags-word t) (ok .flags);
+          within = new-reads .within t;
+          sized = omega (arith, new-reads .size t);
+          fit = rw (coding-same t, values-same xs refl) (ok .fit);
+        }
+
+    pub check-same : (zs : List ℤ) → length zs ≡ length xs → checkNewBlock depth again zs ≡ checkNewBlock depth r zs
+    check-same zs q =
+        fit-decides depth again xs zs new-template
+        ∙ ap₂ (λ (k : Coding) (vs : List ℤ). refuse (not (every (holds (widthOf k)) vs)) WidthTooSmall) (coding-same t) (values-same zs q)
+        ∙ sym (fit-decides depth r xs zs ok)

@@ -5,35 +5,38 @@ use mathlib.Core.Bool.{Bool, true, false, cond, not, _&&_}
 use mathlib.Core.List.{List, [], _∷_, _++_, append-nil, append-assoc}
 use native.Mathlib.Omega.{arith}
 use lib.ListN.{length, getD, take, drop, length-append, take-append-drop, List·getD-append}
-use lib.Seq.{ext-getD, getD-take, length-take-le, take-append-le, take-at, drop-length}
+use lib.Seq.{ext-getD, getD-take, length-take-le, take-append-le, drop-length}
 use lib.IntN.{ℤ, pos}
-use lib.Dec.{eqb, eqb·suc-zero}
+use lib.Dec.{ltb, eqb, eqb·suc-zero}
 use borrow.Author.Tests.{le-ltb}
 use Rattle.format.specs.Lists.{tab, joined, same}
 use Rattle.format.specs.Numbers.{num, numAt, Below}
 use Rattle.format.specs.Blocks.{blockMark, isBlock, midBit, floatBit, sizeOf, samplesOf, rest}
-use Rattle.format.specs.MidSide.{left, leftRight}
+use Rattle.format.specs.MidSide.{leftRight}
+use Rattle.format.specs.Refusals.{refuse}
 use Rattle.format.specs.Decoding.{isFloat, checkBlock, checkGroup, coded, channelsOf, woven, active, groupSamples}
 use Rattle.format.specs.Encoding.{plain, midSide, parity}
 use Rattle.format.specs.Reencoding.{newBlock, checkNewBlock, activeIn, checkNewGroup, newGroup}
+use Rattle.format.specs.declared.refusals.Refusal.the-variants.{NotStereo, ParityDiffers, ShortGroup, TemplateBytesLeft}
 use Rattle.format.specs.declared.refusals.Checked.the-variants.{Fine}
 use Rattle.format.specs.declared.settings.SampleFormat.the-variants.{Pcm}
 use Rattle.format.specs.declared.answers.Fields.{Fields}
 use Rattle.laws.proofs.Templates as T
 use Rattle.laws.proofs.Templates.{Template}
 use Rattle.laws.proofs.Lengths.{samples-512}
-use Rattle.laws.proofs.Parts.{length-tab, getD-tab, from-within}
-use Rattle.laws.proofs.Checks.{pass, _and-then_, in-order}
+use Rattle.laws.proofs.Parts.{length-tab, getD-tab, joined-cong, from-within}
+use Rattle.laws.proofs.Checks.{pass, _and-then_, _then-same_, in-order, order-cong}
 use Rattle.laws.proofs.Signs.{AllHold}
 use Rattle.laws.proofs.Wrap.{Fit}
 use Rattle.promises.proofs.BlockLaws.{Reads, fit}
 use Rattle.laws.proofs.Channels.{Level, plain-at, plain-level, woven-back, woven-at, active-low}
-use Rattle.laws.proofs.Stereo.{both-level, both-back, sides-follow, two-channels, left-at, frame-same}
+use Rattle.promises.proofs.MidSums.{Stays}
+use Rattle.laws.proofs.Stereo.{both-level, both-back, two-channels, frame-same, both-kept}
 use Rattle.promises.proofs.GroupLaws.{not-float, front, rest-is, coded-is, group-fine, first-flags, first-mark, first-pcm, group-long}
 use Rattle.promises.proofs.GroupCoding.{Group}
-use Rattle.promises.proofs.NewBlocks.{newSamples, new-reads}
+use Rattle.promises.proofs.NewBlocks.{newSamples, new-reads, block-same, check-same}
 use Rattle.promises.proofs.Bytes.{below-rest}
-use Rattle.promises.proofs.Kept.{block-kept, samples-fit, again-block}
+use Rattle.promises.proofs.Kept.{block-kept, samples-fit}
 
 -- a template's group bs was accepted with the samples s
 pub record Accepted (h : Fields) (g : ℕ) (bs : List ℕ) (s : List ℤ) : Type 0 where
@@ -63,9 +66,6 @@ module _ {h : Fields} {g : ℕ} {bs : List ℕ} {s : List ℤ} (ok : Accepted h 
   -- ---- what passed
   abbrev stereo-ok : (midBit bs && not (eqb n 2)) ≡ false
   stereo-ok = T.stereo-ok (h .depth) n bs s (ok .fine)
-
-  abbrev parity-ok : (midBit bs && not (parity (plain n s))) ≡ false
-  parity-ok = T.parity-ok (h .depth) n bs s (ok .fine)
 
   abbrev two-ok : midBit bs ≡ true → n ≡ 2
   two-ok = T.two-ok (h .depth) n bs s (ok .fine)
@@ -195,38 +195,46 @@ module _ {h : Fields} {g : ℕ} {bs : List ℕ} {s : List ℤ} (ok : Accepted h 
         long = subst (λ (x : ℕ). 80 * n ≤ x) (T.new-group-length (h .depth) n bs s (ok .fine)) (new-group .long);
       }
 
-  -- ---- the new group as a template
-  chans-again : activeIn n (joined B n) s ≡ chans
-  unfolding activeIn
-  chans-again = ap (λ (t : Bool). cond t (midSide (plain n s)) (plain n s)) flags-mid
+  -- ---- the new group as a template's, with other samples, as many
+  module _ (z : List ℤ) (lz : length z ≡ length s) where
+    abbrev others : List (List ℤ)
+    others = activeIn n bs z
 
-  -- is accepted with the same samples
-  pub again-group : checkNewGroup (h .depth) n (newGroup (h .depth) n bs s) s ≡ Fine
-  unfolding checkNewGroup newGroup
-  again-group =
-      pass _ _ (le-ltb (length (joined B n)) 12 (omega (arith, group-long h flags X B reads n (omega arith), ok .some)))
-      and-then pass _ _ (ap (λ (b : Bool). b && not (eqb n 2)) flags-mid ∙ stereo-ok)
-      and-then pass _ _ (ap (λ (b : Bool). b && not (parity (plain n s))) flags-mid ∙ parity-ok)
-      and-then in-order (λ c. checkNewBlock (h .depth) (rest (h .depth) (joined B n) c) (getD (activeIn n (joined B n) s) c [])) n
-      (λ c q. let f = front h flags X B reads c q in
-      ap₂ (checkNewBlock (h .depth)) (f .1) (ap (λ (cs : List (List ℤ)). getD cs c []) chans-again)
-      ∙ again-block (h .depth) (ok .low) (ok .high) (r c) (getD chans c []) (chan-some c q) (chan-few c q) (chan-fit c q) (blocks-ok c q) (f .0))
-      and-then pass _ _ (ap (λ (x : List ℕ). not (eqb (length x) 0)) (rest-is h flags X B reads n (omega arith) ∙ drop-length (joined B n)))
+    others-long : (c : ℕ) → c < n → length (getD others c []) ≡ length (getD chans c [])
+    others-long c q = T.active-long (h .depth) n bs s (ok .fine) k (ok .some) z (lz ∙ ok .long) c q ∙ sym (level .long c q)
 
-  -- and its first channel holds the samples' first channel, mid where it is coded so
-  pub mid-again : getD (activeIn n (newGroup (h .depth) n bs s) s) 0 [] ≡ take k (samplesOf (h .depth) (newGroup (h .depth) n bs s))
-  unfolding newGroup rest
-  mid-again =
-      let f = front h flags X B reads 0 (ok .some) in
-      ap (λ (cs : List (List ℤ)). getD cs 0 []) chans-again
-      ∙ sym (ap (λ (x : List ℕ). take k (samplesOf (h .depth) x)) (f .1) ∙ ap (take k) (reads 0 (ok .some) .samples (f .0)) ∙ take-at (getD chans 0 []) _ k (level .long 0 (ok .some)))
+    others-same : activeIn n (joined B n) z ≡ others
+    unfolding activeIn
+    others-same = ap (λ (t : Bool). cond t (midSide (plain n z)) (plain n z)) flags-mid
+
+    -- what is the same for each block, whatever lies after it, is the same in the group
+    in-group : {A : Type 0} (F : List ℕ → List ℤ → A) (c : ℕ) → c < n → ((t : List ℕ) → F (B c ++ t) (getD others c []) ≡ F (r c) (getD others c []))
+        → F (rest (h .depth) (joined B n) c) (getD (activeIn n (joined B n) z) c []) ≡ F (r c) (getD others c [])
+    in-group F c q e = let f = front h flags X B reads c q in ap₂ F (f .1) (ap (λ (cs : List (List ℤ)). getD cs c []) others-same) ∙ e (f .0)
+
+    -- is refused as the template's
+    pub group-checks-same : checkNewGroup (h .depth) n (newGroup (h .depth) n bs s) z ≡ checkNewGroup (h .depth) n bs z
+    unfolding checkNewGroup newGroup
+    group-checks-same =
+        ap (λ (x : ℕ). refuse (ltb x 12) ShortGroup) (T.new-group-length (h .depth) n bs s (ok .fine))
+        then-same λ a. ap (λ (b : Bool). refuse (b && not (eqb n 2)) NotStereo) flags-mid
+        then-same λ a. ap (λ (b : Bool). refuse (b && not (parity (plain n z))) ParityDiffers) flags-mid
+        then-same λ a. order-cong _ _ n
+        (λ c q. in-group (checkNewBlock (h .depth)) c q
+        (λ t. check-same (h .depth) (ok .low) (r c) (getD chans c []) (chan-some c q) (chan-few c q) (chan-fit c q) (blocks-ok c q) t (getD others c []) (others-long c q)))
+        then-same λ a. ap (λ (x : ℕ). refuse (not (eqb x 0)) TemplateBytesLeft) (ap length (rest-is h flags X B reads n (omega arith) ∙ drop-length (joined B n)) ∙ sym none-left)
+
+    -- and gives the same
+    pub group-same : newGroup (h .depth) n (newGroup (h .depth) n bs s) z ≡ newGroup (h .depth) n bs z
+    unfolding newGroup
+    group-same =
+        joined-cong _ _ n
+        (λ c q. in-group (newBlock (h .depth)) c q
+        (λ t. block-same (h .depth) (ok .low) (r c) (getD chans c []) (chan-some c q) (chan-few c q) (chan-fit c q) (blocks-ok c q) t (getD others c []) (others-long c q)))
 
   -- ---- with the template's own samples: S c are those of channel c as they are coded
   abbrev S : ℕ → List ℤ
   S c = samplesOf (h .depth) (r c)
-
-  S-long : (c i : ℕ) → c < n → i < k → i < length (getD (tab n S) c [])
-  S-long c i q p = omega (arith, ap length (getD-tab n S c [] q), samples-512 (h .depth) (r c) (blocks-ok c q .within), active-low (h .frames) g)
 
   read-plain : midBit bs ≡ false → channelsOf h Pcm bs ≡ tab n S
   unfolding channelsOf coded
@@ -243,7 +251,7 @@ module _ {h : Fields} {g : ℕ} {bs : List ℕ} {s : List ℤ} (ok : Accepted h 
       by true m = ap length (read-both m) ∙ two-channels (tab n S) ∙ sym (two-ok m)
       by false m = ap length (read-plain m) ∙ length-tab n S
 
-  module _ (byte : Below 256 bs) (own : s ≡ groupSamples h Pcm g bs) (kept : midBit bs ≡ true → getD chans 0 [] ≡ take k (S 0)) where
+  module _ (byte : Below 256 bs) (own : s ≡ groupSamples h Pcm g bs) (stay : midBit bs ≡ true → (i : ℕ) → i < k → Stays (h .depth) bs i) where
     own-at : (c i : ℕ) → c < n → i < k → getD (getD (plain n s) c []) i (pos 0) ≡ getD (getD (channelsOf h Pcm bs) c []) i (pos 0)
     unfolding groupSamples
     own-at c i q p = plain-at n k (ok .some) s (ok .long) c i q p ∙ ap (λ (x : List ℤ). getD x (i * n + c) (pos 0)) own ∙ woven-at n k (channelsOf h Pcm bs) read-count c i q p
@@ -258,22 +266,17 @@ module _ {h : Fields} {g : ℕ} {bs : List ℕ} {s : List ℤ} (ok : Accepted h 
         own-at c i q j ∙ ap (λ (cs : List (List ℤ)). getD (getD cs c []) i (pos 0)) (read-plain m)
         ∙ ap (λ (x : List ℤ). getD x i (pos 0)) (getD-tab n S c [] q) ∙ sym (getD-take k (S c) i (pos 0) j))
 
-    -- where they are mid and side: the kept mids decide the sides
-    sides-own : midBit bs ≡ true → getD chans 1 [] ≡ take k (S 1)
-    sides-own m =
-        let two = two-ok m in
-        let e = samples-512 (h .depth) (r 1) (blocks-ok 1 (omega arith) .within) in
-        ap (λ (cs : List (List ℤ)). getD cs 1 []) (chans-both m)
-        ∙ sides-follow (h .depth) n k (ok .high) two (plain n s) plains (T.even-ok (h .depth) n bs s (ok .fine) m) (S 0) (S 1) (omega (arith, active-low (h .frames) g))
-        (samples-fit (h .depth) (r 1) (ok .low) (ok .high) (blocks-ok 1 (omega arith) .within))
-        (ap (λ (cs : List (List ℤ)). getD cs 0 []) (sym (chans-both m)) ∙ kept m)
-        (λ i p. sym (own-at 0 i (omega arith) p ∙ ap (λ (cs : List (List ℤ)). getD (getD cs 0 []) i (pos 0)) (read-both m) ∙ left-at i (tab n S) (λ d u. S-long d i (omega arith) p)
-        ∙ ap₂ (λ (x y : List ℤ). left Pcm (getD x i (pos 0)) (getD y i (pos 0))) (getD-tab n S 0 [] (omega arith)) (getD-tab n S 1 [] (omega arith))))
-
+    -- where they are mid and side
     both-own : midBit bs ≡ true → (c : ℕ) → c < n → getD chans c [] ≡ take k (S c)
-    both-own m zero q = kept m
-    both-own m (suc zero) q = sides-own m
-    both-own m (suc (suc c)) q = absurd (omega (arith, two-ok m))
+    both-own m c q =
+        let two = two-ok m in
+        ap (λ (cs : List (List ℤ)). getD cs c []) (chans-both m)
+        ∙ both-kept S k
+        (λ d u. omega (arith, samples-512 (h .depth) (r d) (blocks-ok d (omega arith) .within), active-low (h .frames) g))
+        (λ d u. samples-fit (h .depth) (r d) (ok .low) (ok .high) (blocks-ok d (omega arith) .within))
+        (stay m) (plain n s) (λ d u. plains .long d (omega arith))
+        (λ d i u p. own-at d i (omega arith) p ∙ ap (λ (cs : List (List ℤ)). getD (getD cs d []) i (pos 0)) (read-both m ∙ ap (λ (x : ℕ). leftRight Pcm (tab x S)) two))
+        c (omega arith)
 
     chans-own : (c : ℕ) → c < n → getD chans c [] ≡ take k (S c)
     chans-own c q = by (midBit bs) refl

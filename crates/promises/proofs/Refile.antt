@@ -6,19 +6,18 @@ use mathlib.Core.List.{List, [], _++_, append-nil}
 use native.Mathlib.Omega.{arith}
 use native.Mathlib.Numerals.{add-one}
 use native.Mathlib.Decide.{decLe}
-use lib.ListN.{length, getD, take, drop, take-append-drop}
+use lib.ListN.{length, take, drop, take-append-drop}
 use lib.Seq.{drop-at, drop-drop, take-all, length-take-le}
 use lib.IntN.{ℤ}
 use borrow.Author.Tests.{le-ltb, eq-eqb}
 use Rattle.format.specs.Lists.{joined, from, same}
 use Rattle.format.specs.Numbers.{num, numAt, Below}
 use Rattle.format.specs.Header.{signature, isSignature, fieldsOf, groupsOf, entry, group}
-use Rattle.format.specs.Blocks.{midBit, samplesOf, rest}
 use Rattle.format.specs.Units.{isDepth}
 use Rattle.format.specs.Opening.{checkOffsets}
 use Rattle.format.specs.Decoding.{active, groupSamples, checkDecode, decodedOf}
 use Rattle.format.specs.Encoding.{groupIn}
-use Rattle.format.specs.Reencoding.{activeIn, checkTemplate, checkReencode, refileOf}
+use Rattle.format.specs.Reencoding.{checkTemplate, checkReencode, refileOf}
 use Rattle.format.specs.declared.refusals.Checked.the-variants.{Fine}
 use Rattle.format.specs.declared.settings.PcmSpec.{PcmSpec}
 use Rattle.format.specs.declared.settings.SampleFormat.the-variants.{Pcm}
@@ -32,6 +31,7 @@ use Rattle.promises.proofs.Laid.{Layout, between, decode-fine, decode-g
 use Rattle.laws.proofs.SampleChecks.{Valid, reencoder-ok, values-ok}
 use Rattle.laws.proofs.TemplateFiles as F
 use Rattle.promises.proofs.Bytes.{below-group}
+use Rattle.promises.proofs.MidSums.{NoneLeaves}
 use Rattle.promises.proofs.NewGroups.{Accepted, new-group, template-group, group-kept}
 
 from-none : (i : ℕ) (s : List ℕ) → from i 0 s ≡ []
@@ -45,12 +45,6 @@ take-own m l q e =
       | yes h ↦ ap (λ (x : ℕ). take x l) (sym (length-take-le m l h) ∙ e)
       | no h ↦ let a : length l ≤ m = omega arith in let b : take m l ≡ l = take-all m l a in b ∙ sym (take-all q l (omega (arith, ap length b)))
     ]
-
--- where a group of the template t is mid and side, its mids are those of the samples s: sums wrap, so that others may be read as the same samples
-abbrev pub MidKept : List ℤ → List ℕ → Fields → Type 0
-MidKept s t h =
-    (g : ℕ) → g < groupsOf (h .frames) → midBit (group t h g) ≡ true
-    → getD (activeIn (h .channels) (group t h g) (groupIn (h .channels) s g)) 0 [] ≡ take (active (h .frames) g) (samplesOf (h .depth) (group t h g))
 
 -- re-encoding accepts s with the template t
 module _ (p : PcmSpec) (s : List ℤ) (t : List ℕ) (ok : checkReencode p s t ≡ Fine) where
@@ -222,8 +216,8 @@ module _ (p : PcmSpec) (s : List ℤ) (t : List ℕ) (ok : checkReencode p s t �
   pub template-decodes : checkDecode t ≡ Fine
   template-decodes = decode-fine template-layout (λ g. groupSamples h Pcm g (group t h g)) some depth rate templates-ok
 
-  -- what the template decodes to, re-encoded
-  module _ (byte : Below 256 t) (own : s ≡ decodedOf t) (kept : MidKept s t h) where
+  -- what the template decodes to, re-encoded, where no mid plus side or mid minus side leaves 32 bits: sums wrap, so that others may be read as the same samples
+  module _ (byte : Below 256 t) (own : s ≡ decodedOf t) (none : NoneLeaves t) where
     abbrev P : ℕ → List ℤ
     P g = groupSamples h Pcm g (group t h g)
 
@@ -249,8 +243,7 @@ module _ (p : PcmSpec) (s : List ℤ) (t : List ℕ) (ok : checkReencode p s t �
         sum-zero x = omega arith
 
     part-kept : (g : ℕ) → g < count → part g ≡ group t h g
-    unfolding rest
-    part-kept g l = group-kept (accepted g l) (below-group t byte h g) (group-own g l) (kept g l)
+    part-kept g l = group-kept (accepted g l) (below-group t byte h g) (group-own g l) (λ m i q. none g i l m q)
 
     -- is the template
     pub template-kept : refileOf s t ≡ t

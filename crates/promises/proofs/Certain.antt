@@ -1,0 +1,186 @@
+-- What is allowed is one outcome, and a refusal changes nothing: for every public function, over what it promises.
+use Prim.Native.Nat.{ℕ, _*_, _/_, _^_, _≤_, _<_}
+use mathlib.Core.Path.{_≡_, refl, sym, ap, _∙_}
+use mathlib.Core.Bool.{Bool, true, false, cond}
+use mathlib.Core.List.{List, []}
+use native.Mathlib.Omega.{arith}
+use lib.ListN.{length}
+use lib.IntN.{ℤ}
+use lib.Dec.{ltb}
+use borrow.Author.Tests.{ltb-false}
+use Rattle.format.specs.Numbers.{Below}
+use Rattle.format.specs.Header.{fieldsOf}
+use Rattle.format.specs.Refusals.{refuse, _then_}
+use Rattle.format.specs.Answers.{refusedBy, answered, filled}
+use Rattle.format.specs.Opening.{openOf, checkOpen}
+use Rattle.format.specs.Decoding.{checkDecode, decodedOf, decodedCount, checkRoom, decodeOf, decodeInto}
+use Rattle.format.specs.Walking.{stepSamples, stepCount, isLeft, checkWalk, stepOf, stepInto}
+use Rattle.format.specs.Encoding.{fileOf, checkEncode, checkEncodeInto, encodeOf, encodeInto}
+use Rattle.format.specs.Reencoding.{refileOf, checkReencode, checkReencodeInto, reencodeOf, reencodeInto}
+use Rattle.format.specs.Boundary.{samplesFrom, sampleBytes, modeOf, checkMode, checkBytes, result, hostDecode, hostDecodeInto, checkHostEncode, hostEncode, hostEncodeInto, checkHostReencode, hostReencode, hostReencodeInto}
+use Rattle.format.specs.Promises.{Opens, Decodes, Steps, Encodes, Reencodes, HostOpens, HostDecodes, HostEncodes, HostReencodes}
+use Rattle.format.specs.declared.units.Samples.{Samples}
+use Rattle.format.specs.declared.refusals.Refusal.{Refusal}
+use Rattle.format.specs.declared.refusals.Refusal.the-variants.{OutputTooShort}
+use Rattle.format.specs.declared.refusals.Checked.{Checked}
+use Rattle.format.specs.declared.refusals.Checked.the-variants.{Fine, No}
+use Rattle.format.specs.declared.settings.PcmSpec.{PcmSpec}
+use Rattle.format.specs.declared.settings.StereoMode.{StereoMode}
+use Rattle.format.specs.declared.answers.Outcome.{Outcome}
+use Rattle.format.specs.declared.answers.Outcome.the-variants.{Read, Finished, Wrote}
+use Rattle.format.specs.declared.answers.Answer.{Answer}
+use Rattle.lent.specs.Lent.{lentOf, restOf}
+use Rattle.lent.specs.declared.Container.{Container}
+use Rattle.lent.proofs.Outcome.{one-outcome}
+use Rattle.laws.proofs.Checks.{passed, first-fine, others-fine}
+use Rattle.promises.proofs.Outcomes.{isRefused, no-keeps, refused-keeps, host-refused}
+
+-- ---- 7. ONE OUTCOME
+
+-- two outcomes that the promise allows are equal, in the answer and in all that is lent
+abbrev pub One : {R A : Type 0} → (R → A → Type 0) → Type 0
+One {R} {A} P = (r r′ : R) (after after′ : A) → P r after → P r′ after′ → (r ≡ r′) × (after ≡ after′)
+
+-- what is promised of samples in either container: P of the samples, and that all else stays
+abbrev pub InEither : (Answer → List ℤ → Type 0) → Container → List ℤ → List ℕ → Answer → List ℤ → List ℕ → Type 0
+InEither P which words bytes r words′ bytes′ = P r (lentOf which words′ bytes′) × (restOf which words′ bytes′ ≡ restOf which words bytes)
+
+abbrev pub OneInEither : (Answer → List ℤ → Type 0) → Container → List ℤ → List ℕ → Type 0
+OneInEither P which words bytes =
+    (r r′ : Answer) (w w′ : List ℤ) (b b′ : List ℕ) → Below 256 b → Below 256 b′
+    → InEither P which words bytes r w b → InEither P which words bytes r′ w′ b′ → (r ≡ r′) × (w ≡ w′) × (b ≡ b′)
+
+equations : {R A : Type 0} (x : R) (y : A) → One (λ (r : R) (after : A). (r ≡ x) × (after ≡ y))
+equations x y r r′ after after′ p q = (p .0 ∙ sym (q .0), p .1 ∙ sym (q .1))
+
+in-either : (P : Answer → List ℤ → Type 0) → One P → (which : Container) (words : List ℤ) (bytes : List ℕ) → OneInEither P which words bytes
+in-either P one which words bytes r r′ w w′ b b′ hb hb′ p q =
+    let e = one r r′ (lentOf which w b) (lentOf which w′ b′) (p .0) (q .0) in
+    let m = one-outcome which w w′ b b′ hb hb′ (e .1) (p .1 ∙ sym (q .1)) in
+    (e .0, m .0, m .1)
+
+pub record OneOutcome : Type 1 where
+  -- a function that lends nothing, whose promise is r ≡ x
+  pub equation : {R : Type 0} (x r r′ : R) → r ≡ x → r′ ≡ x → r ≡ r′
+  pub decodes : (s : List ℕ) (lent : List ℤ) → One (Decodes s lent)
+  pub steps : (s : List ℕ) (g : ℕ) (lent : List ℤ) → One (Steps s g lent)
+  pub encodes : (p : PcmSpec) (mode : StereoMode) (s : List ℤ) (lent : List ℕ) → One (Encodes p mode s lent)
+  pub reencodes : (p : PcmSpec) (s : List ℤ) (t lent : List ℕ) → One (Reencodes p s t lent)
+  pub host-decodes : (s lent : List ℕ) → One (HostDecodes s lent)
+  pub host-encodes : (b : List ℕ) (p : PcmSpec) (mode : ℕ) (lent : List ℕ) → One (HostEncodes b p mode lent)
+  pub host-reencodes : (b : List ℕ) (p : PcmSpec) (t lent : List ℕ) → One (HostReencodes b p t lent)
+  -- samples lent in either container: decode_lent, decode_group_lent
+  pub decodes-lent : (s : List ℕ) (which : Container) (words : List ℤ) (bytes : List ℕ) → OneInEither (Decodes s (lentOf which words bytes)) which words bytes
+  pub steps-lent : (s : List ℕ) (g : ℕ) (which : Container) (words : List ℤ) (bytes : List ℕ) → OneInEither (Steps s g (lentOf which words bytes)) which words bytes
+
+pub one-outcome-each : OneOutcome
+one-outcome-each =
+    record {
+      equation = λ x r r′ p q. p ∙ sym q;
+      decodes = λ s lent. equations _ _;
+      steps = λ s g lent. equations _ _;
+      encodes = λ p mode s lent. equations _ _;
+      reencodes = λ p s t lent. equations _ _;
+      host-decodes = λ s lent. equations _ _;
+      host-encodes = λ b p mode lent. equations _ _;
+      host-reencodes = λ b p t lent. equations _ _;
+      decodes-lent = λ s which words bytes. in-either _ (equations _ _) which words bytes;
+      steps-lent = λ s g which words bytes. in-either _ (equations _ _) which words bytes;
+    }
+
+-- ---- 8. REFUSALS CHANGE NOTHING
+
+-- where the answer is a refusal, what is lent stays as it was
+abbrev pub Keeps : {A : Type 0} → (Answer → List A → Type 0) → List A → Type 0
+Keeps {A} P lent = (x : Refusal) (after : List A) → P (refusedBy x) after → after ≡ lent
+
+abbrev pub KeepsInEither : (Answer → List ℤ → Type 0) → Container → List ℤ → List ℕ → Type 0
+KeepsInEither P which words bytes =
+    (x : Refusal) (w : List ℤ) (b : List ℕ) → Below 256 bytes → Below 256 b → InEither P which words bytes (refusedBy x) w b → (w ≡ words) × (b ≡ bytes)
+
+-- a host is told of a refusal by a number from 2 ^ 63 on; no slice is as long as that
+abbrev pub HostKeeps : (ℕ → List ℕ → Type 0) → List ℕ → Type 0
+HostKeeps P lent = length lent < 2 ^ 63 → (r : ℕ) (after : List ℕ) → 2 ^ 63 ≤ r → P r after → after ≡ lent
+
+pub record RefusalsKeep : Type 0 where
+  pub decodes : (s : List ℕ) (lent : List ℤ) → Keeps (Decodes s lent) lent
+  pub steps : (s : List ℕ) (g : ℕ) (lent : List ℤ) → Keeps (Steps s g lent) lent
+  pub encodes : (p : PcmSpec) (mode : StereoMode) (s : List ℤ) (lent : List ℕ) → Keeps (Encodes p mode s lent) lent
+  pub reencodes : (p : PcmSpec) (s : List ℤ) (t lent : List ℕ) → Keeps (Reencodes p s t lent) lent
+  pub host-decodes : (s lent : List ℕ) → HostKeeps (HostDecodes s lent) lent
+  pub host-encodes : (b : List ℕ) (p : PcmSpec) (mode : ℕ) (lent : List ℕ) → HostKeeps (HostEncodes b p mode lent) lent
+  pub host-reencodes : (b : List ℕ) (p : PcmSpec) (t lent : List ℕ) → HostKeeps (HostReencodes b p t lent) lent
+  pub decodes-lent : (s : List ℕ) (which : Container) (words : List ℤ) (bytes : List ℕ) → KeepsInEither (Decodes s (lentOf which words bytes)) which words bytes
+  pub steps-lent : (s : List ℕ) (g : ℕ) (which : Container) (words : List ℤ) (bytes : List ℕ) → KeepsInEither (Steps s g (lentOf which words bytes)) which words bytes
+
+-- what passed the check of the room has room
+has-room : (a : Checked) (room m : ℕ) (r : Refusal) → (a then refuse (ltb room m) r) ≡ Fine → m ≤ room
+has-room a room m r e = ltb-false room m (passed _ _ (others-fine a _ e))
+
+left-or-done : (b : Bool) (n : Samples) → isRefused (cond b (Read n) Finished) ≡ false
+left-or-done true n = refl
+left-or-done false n = refl
+
+decode-keeps : (s : List ℕ) (lent : List ℤ) → Keeps (Decodes s lent) lent
+unfolding decodeOf decodeInto
+decode-keeps s lent x after d = refused-keeps (checkDecode s then checkRoom s (length lent)) (Read (decodedCount s)) x (decodedOf s) lent after refl (d .0) (d .1)
+
+step-keeps : (s : List ℕ) (g : ℕ) (lent : List ℤ) → Keeps (Steps s g lent) lent
+unfolding stepOf stepInto
+step-keeps s g lent x after d =
+    refused-keeps (checkWalk s g (length lent)) (cond (isLeft s g) (Read (stepCount s g)) Finished) x (cond (isLeft s g) (stepSamples s g) []) lent after
+    (left-or-done (isLeft s g) (stepCount s g)) (d .0) (d .1)
+
+encode-keeps : (p : PcmSpec) (mode : StereoMode) (s : List ℤ) (lent : List ℕ) → Keeps (Encodes p mode s lent) lent
+unfolding encodeOf encodeInto
+encode-keeps p mode s lent x after e = refused-keeps (checkEncodeInto p mode s (length lent)) (Wrote (length (fileOf p mode s))) x (fileOf p mode s) lent after refl (e .0) (e .1)
+
+reencode-keeps : (p : PcmSpec) (s : List ℤ) (t lent : List ℕ) → Keeps (Reencodes p s t lent) lent
+unfolding reencodeOf reencodeInto
+reencode-keeps p s t lent x after e = refused-keeps (checkReencodeInto p s t (length lent)) (Wrote (length t)) x (refileOf s t) lent after refl (e .0) (e .1)
+
+-- at the boundary, with the checks c, the outcome o of success and what it writes
+host-keeps : (c : Checked) (o : Outcome) (w lent : List ℕ) → (length lent < 2 ^ 63 → c ≡ Fine → result o < 2 ^ 63)
+    → HostKeeps (λ (r : ℕ) (after : List ℕ). (r ≡ result (answered c o .outcome)) × (after ≡ filled c w lent)) lent
+host-keeps c o w lent few short r after l p =
+    let e = p .0 in
+    let x = host-refused c o (few short) (omega arith) in
+    no-keeps c (x .0) w lent after (x .1) (p .1)
+
+host-decode-keeps : (s lent : List ℕ) → HostKeeps (HostDecodes s lent) lent
+unfolding hostDecode hostDecodeInto decodeOf checkRoom
+host-decode-keeps s lent =
+    host-keeps (checkDecode s then checkRoom s (length lent / 4)) (Read (decodedCount s)) (sampleBytes (decodedOf s)) lent
+    (λ short fine. let q = has-room (checkDecode s) (length lent / 4) (decodedCount s .0) OutputTooShort fine in omega arith)
+
+host-encode-keeps : (b : List ℕ) (p : PcmSpec) (mode : ℕ) (lent : List ℕ) → HostKeeps (HostEncodes b p mode lent) lent
+unfolding hostEncode hostEncodeInto checkHostEncode checkEncodeInto
+host-encode-keeps b p mode lent =
+    let file = fileOf p (modeOf mode) (samplesFrom b) in
+    host-keeps (checkHostEncode b p mode (length lent)) (Wrote (length file)) file lent
+    (λ short fine.
+    let q = has-room (checkEncode p (modeOf mode) (samplesFrom b)) (length lent) (length file) OutputTooShort (others-fine (checkBytes b) _ (others-fine (checkMode mode) _ fine)) in
+    omega arith)
+
+host-reencode-keeps : (b : List ℕ) (p : PcmSpec) (t lent : List ℕ) → HostKeeps (HostReencodes b p t lent) lent
+unfolding hostReencode hostReencodeInto checkHostReencode checkReencodeInto
+host-reencode-keeps b p t lent =
+    host-keeps (checkHostReencode b p t (length lent)) (Wrote (length t)) (refileOf (samplesFrom b) t) lent
+    (λ short fine. let q = has-room (checkReencode p (samplesFrom b) t) (length lent) (length t) OutputTooShort (others-fine (checkBytes b) _ fine) in omega arith)
+
+keeps-in-either : (P : Answer → List ℤ → Type 0) (which : Container) (words : List ℤ) (bytes : List ℕ) → Keeps P (lentOf which words bytes) → KeepsInEither P which words bytes
+keeps-in-either P which words bytes keeps x w b hb hb′ p = one-outcome which w words b bytes hb′ hb (keeps x (lentOf which w b) (p .0)) (p .1)
+
+pub refusals-keep : RefusalsKeep
+refusals-keep =
+    record {
+      decodes = decode-keeps;
+      steps = step-keeps;
+      encodes = encode-keeps;
+      reencodes = reencode-keeps;
+      host-decodes = host-decode-keeps;
+      host-encodes = host-encode-keeps;
+      host-reencodes = host-reencode-keeps;
+      decodes-lent = λ s which words bytes. keeps-in-either (Decodes s (lentOf which words bytes)) which words bytes (decode-keeps s (lentOf which words bytes));
+      steps-lent = λ s g which words bytes. keeps-in-either (Steps s g (lentOf which words bytes)) which words bytes (step-keeps s g (lentOf which words bytes));
+    }

@@ -1,0 +1,136 @@
+-- Outcomes read backwards: from what was answered, what the checks said and what lent memory holds.
+use Prim.Native.Nat.{ℕ, _+_, _*_, _^_, _≤_, _<_}
+use mathlib.Core.Path.{_≡_, refl, sym, ap, ap₂, _∙_}
+use mathlib.Core.Bool.{Bool, true, false}
+use mathlib.Core.List.{List}
+use native.Mathlib.Omega.{arith}
+use native.Mathlib.Nat.{mul-comm}
+use lib.ListN.{length, take, drop}
+use lib.Seq.{take-at}
+use lib.IntN.{ℤ}
+use borrow.Author.Tests.{le-ltb}
+use Rattle.format.specs.Lists.{over}
+use Rattle.format.specs.Header.{fieldsOf}
+use Rattle.format.specs.Refusals.{_then_}
+use Rattle.format.specs.Answers.{answeredBy, refusedBy, answered, filled, read, wrote}
+use Rattle.format.specs.Decoding.{checkDecode, decodedOf, decodedCount, checkRoom, decodeOf, decodeInto}
+use Rattle.format.specs.declared.units.Samples.{Samples}
+use Rattle.format.specs.declared.refusals.Refusal.{Refusal}
+use Rattle.format.specs.declared.refusals.Checked.{Checked}
+use Rattle.format.specs.declared.refusals.Checked.the-variants.{Fine, No}
+use Rattle.format.specs.declared.answers.Outcome.{Outcome}
+use Rattle.format.specs.declared.answers.Outcome.the-variants.{Opened, Read, Finished, Wrote, Refused}
+use Rattle.format.specs.declared.answers.Answer.{Answer}
+use Rattle.laws.proofs.Tests.{never}
+use Rattle.format.specs.Boundary.{result}
+use Rattle.format.specs.Promises.{Decodes}
+use Rattle.laws.proofs.Checks.{pass, _and-then_, first-fine}
+use Rattle.laws.proofs.Lengths.{decode-writes}
+
+abbrev pub isRefused : Outcome → Bool
+isRefused (Refused r) = true
+isRefused (Opened h) = false
+isRefused (Read n) = false
+isRefused Finished = false
+isRefused (Wrote n) = false
+
+-- ---- what succeeds was not refused, and is what success says
+module _ (c : Checked) (o x : Outcome) (success : isRefused x ≡ false) (e : answeredBy x ≡ answered c o) where
+  told : (k : Checked) → c ≡ k → x ≡ answered k o .outcome
+  told k q = ap (λ (a : Answer). a .outcome) (e ∙ ap (λ (y : Checked). answered y o) q)
+
+  pub succeeds-fine : c ≡ Fine
+  succeeds-fine = by c refl
+    where
+      by : (k : Checked) → c ≡ k → k ≡ Fine
+      by Fine q = refl
+      by (No r) q = never (sym (ap isRefused (told (No r) q)) ∙ success)
+
+  pub succeeds-as : x ≡ o
+  succeeds-as = told Fine succeeds-fine
+
+-- ---- what is refused is what the checks refuse, and exactly that
+module _ (o : Outcome) (success : isRefused o ≡ false) (r : Refusal) where
+  pub refused-no : (c : Checked) → refusedBy r ≡ answered c o → c ≡ No r
+  refused-no Fine e = never (ap (λ (a : Answer). isRefused (a .outcome)) e ∙ success)
+  refused-no (No x) e = let q : Refused r ≡ Refused x = ap (λ (a : Answer). a .outcome) e in cc
+
+-- and then nothing changes
+pub no-keeps : {A : Type 0} (c : Checked) (r : Refusal) (w before after : List A) → c ≡ No r → after ≡ filled c w before → after ≡ before
+no-keeps {A} c r w before after e p = p ∙ ap (λ (k : Checked). filled k w before) e
+
+pub refused-keeps : {A : Type 0} (c : Checked) (o : Outcome) (r : Refusal) (w before after : List A) → isRefused o ≡ false → refusedBy r ≡ answered c o → after ≡ filled c w before → after ≡ before
+refused-keeps {A} c o r w before after success e = no-keeps c r w before after (refused-no o success r c e)
+
+-- what was written lies at the front
+pub written-front : {A : Type 0} (c : Checked) (n : ℕ) (w before after : List A) → c ≡ Fine → n ≡ length w → after ≡ filled c w before → take n after ≡ w
+unfolding over
+written-front {A} c n w before after fine l p =
+    ap (take n) (p ∙ ap (λ (k : Checked). filled k w before) fine) ∙ take-at w (drop (length w) before) n (sym l)
+
+-- ---- an answer that n bytes were written, of m
+module _ (c : Checked) (m n : ℕ) (e : wrote n ≡ answered c (Wrote m)) where
+  pub wrote-fine : c ≡ Fine
+  wrote-fine = succeeds-fine c (Wrote m) (Wrote n) refl e
+
+  pub wrote-length : n ≡ m
+  wrote-length = let q = succeeds-as c (Wrote m) (Wrote n) refl e in cc
+
+-- ---- an answer that n samples of the file f were read
+module _ (f : List ℕ) (lent after : List ℤ) (n : ℕ) (d : Decodes f lent (read n) after) where
+  abbrev c : Checked
+  c = checkDecode f then checkRoom f (length lent)
+
+  all-passed : c ≡ Fine
+  unfolding decodeOf
+  all-passed = succeeds-fine c (Read (decodedCount f)) (Read (record { 0 = n })) refl (d .0)
+
+  pub read-fine : checkDecode f ≡ Fine
+  read-fine = first-fine _ _ all-passed
+
+  pub read-count : n ≡ fieldsOf f .frames * fieldsOf f .channels
+  unfolding decodeOf
+  read-count =
+      let e = succeeds-as c (Read (decodedCount f)) (Read (record { 0 = n })) refl (d .0) in
+      let q : _≡_ {A = Samples} (record { 0 = n }) (decodedCount f) = cc in
+      ap (λ (x : Samples). x .0) q
+
+  -- they are what it decodes to
+  pub samples-read : take n after ≡ decodedOf f
+  unfolding decodeInto
+  samples-read = written-front c n (decodedOf f) lent after all-passed (read-count ∙ mul-comm (fieldsOf f .frames) (fieldsOf f .channels) ∙ sym (decode-writes f read-fine)) (d .1)
+
+-- ---- a file that decodes to s, into enough room
+module _ (f : List ℕ) (s : List ℤ) (fine : checkDecode f ≡ Fine) (gives : decodedOf f ≡ s) (out : List ℤ) (room : length s ≤ length out) where
+  count-is : fieldsOf f .frames * fieldsOf f .channels ≡ length s
+  count-is = mul-comm (fieldsOf f .frames) (fieldsOf f .channels) ∙ sym (decode-writes f fine) ∙ ap length gives
+
+  all-fine : (checkDecode f then checkRoom f (length out)) ≡ Fine
+  unfolding checkRoom
+  all-fine = fine and-then pass _ _ (le-ltb (length out) (fieldsOf f .frames * fieldsOf f .channels) (omega (arith, count-is)))
+
+  -- says how many they are
+  pub reads-all : decodeOf f (length out) ≡ read (length s)
+  unfolding decodeOf
+  reads-all = ap₂ (λ (c : Checked) (k : ℕ). answered c (Read (record { 0 = k }))) all-fine count-is
+
+  -- and writes them
+  pub writes-all : decodeInto f out ≡ over s out
+  unfolding decodeInto
+  writes-all = ap₂ (λ (c : Checked) (w : List ℤ). filled c w out) all-fine gives
+
+-- ---- at the host boundary a refusal is a number from 2 ^ 63 on, and a length below it: no slice is as long as that
+module _ (c : Checked) (o : Outcome) where
+  pub host-fine : result (answered c o .outcome) < 2 ^ 63 → c ≡ Fine
+  host-fine = by c
+    where
+      by : (k : Checked) → result (answered k o .outcome) < 2 ^ 63 → k ≡ Fine
+      by Fine l = refl
+      by (No r) l = absurd (omega arith)
+
+  pub host-refused : (c ≡ Fine → result o < 2 ^ 63) → 2 ^ 63 ≤ result (answered c o .outcome) → (r : Refusal) × (c ≡ No r)
+  host-refused = by c
+    where
+      by : (k : Checked) → (k ≡ Fine → result o < 2 ^ 63) → 2 ^ 63 ≤ result (answered k o .outcome) → (r : Refusal) × (k ≡ No r)
+      by Fine few l = let q = few refl in absurd (omega arith)
+      by (No r) few l = (r, refl)
