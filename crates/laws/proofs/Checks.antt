@@ -4,6 +4,8 @@ use mathlib.Core.Path.{_≡_, refl, sym, ap, ap₂, _∙_, subst}
 use mathlib.Core.Bool.{Bool, true, false, _||_}
 use mathlib.Core.Logic.{⊎-elim}
 use native.Mathlib.Omega.{arith}
+use lib.Dec.{eqb}
+use borrow.Author.Tests.{eq-eqb}
 use Rattle.format.specs.Lists.{anyBelow}
 use Rattle.format.specs.Refusals.{number, refuse, _then_, inOrder}
 use Rattle.format.specs.declared.refusals.Refusal.{Refusal}
@@ -48,24 +50,29 @@ unfolding _then_
 others-fine Fine b e = e
 others-fine (No r) b e = cc
 
-fine-no : (r : Refusal) → Fine ≡ No r → ⊥
-fine-no r e = let z : true ≡ false = cc in never z
-
 -- ---- which refusal: x is not what c says
 abbrev pub Unsaid : Refusal → Checked → Type 0
 Unsaid x c = c ≡ No x → ⊥
 
-pub unsaid-refuse : (x r : Refusal) (b : Bool) → (number r ≡ number x → ⊥) → Unsaid x (refuse b r)
+-- a check that refuses by another number
+pub unsaid : (x r : Refusal) (b : Bool) → eqb (number r) (number x) ≡ false → Unsaid x (refuse b r)
 unfolding refuse
-unsaid-refuse x r true differ e = let q : r ≡ x = cc in differ (ap number q)
-unsaid-refuse x r false differ e = fine-no x e
+unsaid x r b differ = by b
+  where
+    by : (t : Bool) → Unsaid x (refuse t r)
+    by true e = let q : r ≡ x = cc in never (sym (eq-eqb (number r) (number x) (ap number q)) ∙ differ)
+    by false e = let z : true ≡ false = cc in never z
 
-pub unsaid-then : (x : Refusal) (a b : Checked) → Unsaid x a → Unsaid x b → Unsaid x (a then b)
+infixr 20 _nor_
+pub _nor_ : {x : Refusal} {a b : Checked} → Unsaid x a → Unsaid x b → Unsaid x (a then b)
 unfolding _then_
-unsaid-then x Fine b p q = q
-unsaid-then x (No r) b p q = p
+_nor_ {x} {a} {b} p q = by a p
+  where
+    by : (c : Checked) → Unsaid x c → Unsaid x (c then b)
+    by Fine h = q
+    by (No r) h = h
 
--- so another check says it
+-- what one of them does not say the other one says
 pub said-after : (x : Refusal) (a b : Checked) → Unsaid x a → (a then b) ≡ No x → (a ≡ Fine) × (b ≡ No x)
 unfolding _then_
 said-after x Fine b p e = (refl, e)

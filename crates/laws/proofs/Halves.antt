@@ -10,7 +10,7 @@ use lib.Pow.{pow-mono, pow-pos}
 use lib.ListN.{length, getD, replicate, take}
 use mir.Syntax.{w32}
 use mir.Val.{SFits}
-use borrow.Author.Tests.{eqb-true, ltb-true}
+use borrow.Author.Tests.{eqb-true, lt-ltb, ltb-true}
 use Rattle.format.specs.Lists.{pairwise, every, lastOr}
 use Rattle.format.specs.Numbers.{wrap32, holds}
 use Rattle.format.specs.MidSide.{left, right}
@@ -58,6 +58,10 @@ even-sum (pos m) (negsuc n) f g e = omega (arith, up-add (pos m) (negsuc n) f g)
 even-sum (negsuc m) (pos n) f g e = omega (arith, up-add (negsuc m) (pos n) f g)
 even-sum (negsuc m) (negsuc n) f g e = omega (arith, up-add (negsuc m) (negsuc n) f g)
 
+-- the sum and the difference of m and s, which are not wrapped here, are numbers of 32 bits
+abbrev pub Stay : ℤ → ℤ → Type 0
+Stay m s = (holds 32 (m +ℤ s) ≡ true) × (holds 32 (m -ℤ s) ≡ true)
+
 -- of l and r below H, of equal parity
 module _ (H : ℕ) (top : H ≤ 2 ^ 31) (l r : ℤ) (f : mag l < H) (g : mag r < H) (eq : equalParity l r ≡ true) where
   even : up (l +ℤ r) % 2 ≡ 0
@@ -93,23 +97,32 @@ module _ (H : ℕ) (top : H ≤ 2 ^ 31) (l r : ℤ) (f : mag l < H) (g : mag r <
       up-inj (l -ℤ side l r) (mid l r) (omega (arith, mag-sub (2 ^ 31) l (side l r) (omega arith) (omega arith) (omega (arith, low-side)))) (omega (arith, low-mid))
       (omega (arith, mid-twice, side-twice))
 
-  pub left-back : left Pcm (mid l r) (side l r) ≡ l
-  unfolding left
-  left-back =
+  -- mid plus side and mid minus side are l and r, without wrapping
+  sum-is : mid l r +ℤ side l r ≡ l
+  sum-is =
       let m = mid l r in
       let s = side l r in
       let a = up-add m s (omega (arith, low-mid)) (omega (arith, low-side)) in
-      let e : m +ℤ s ≡ l = up-inj (m +ℤ s) l (omega (arith, mag-add (2 ^ 31) m s (omega arith) (omega (arith, low-mid)) (omega (arith, low-side)))) (omega arith) (omega (arith, mid-twice, side-twice)) in
-      ap wrap32 e ∙ wrap-fits l (record { sfits = omega arith })
+      up-inj (m +ℤ s) l (omega (arith, mag-add (2 ^ 31) m s (omega arith) (omega (arith, low-mid)) (omega (arith, low-side)))) (omega arith) (omega (arith, mid-twice, side-twice))
 
-  pub right-back : right Pcm (mid l r) (side l r) ≡ r
-  unfolding right
-  right-back =
+  difference-is : mid l r -ℤ side l r ≡ r
+  difference-is =
       let m = mid l r in
       let s = side l r in
       let a = up-sub m s (omega (arith, low-mid)) (omega (arith, low-side)) in
-      let e : m -ℤ s ≡ r = up-inj (m -ℤ s) r (omega (arith, mag-sub (2 ^ 31) m s (omega arith) (omega (arith, low-mid)) (omega (arith, low-side)))) (omega arith) (omega (arith, mid-twice, side-twice)) in
-      ap wrap32 e ∙ wrap-fits r (record { sfits = omega arith })
+      up-inj (m -ℤ s) r (omega (arith, mag-sub (2 ^ 31) m s (omega arith) (omega (arith, low-mid)) (omega (arith, low-side)))) (omega arith) (omega (arith, mid-twice, side-twice))
+
+  pub left-back : left Pcm (mid l r) (side l r) ≡ l
+  unfolding left
+  left-back = ap wrap32 sum-is ∙ wrap-fits l (record { sfits = omega arith })
+
+  pub right-back : right Pcm (mid l r) (side l r) ≡ r
+  unfolding right
+  right-back = ap wrap32 difference-is ∙ wrap-fits r (record { sfits = omega arith })
+
+  -- so neither leaves 32 bits
+  both-stay : Stay (mid l r) (side l r)
+  both-stay = (ap (holds 32) sum-is ∙ lt-ltb (mag l) (2 ^ 31) (omega arith), ap (holds 32) difference-is ∙ lt-ltb (mag r) (2 ^ 31) (omega arith))
 
 -- the half of twice w
 half-twice : (z w : ℤ) → mag z < 2 ^ 38 → mag w < 2 ^ 38 → up z + 2 ^ 40 ≡ up w + up w → quotZ z (pos 2) ≡ w
@@ -233,6 +246,12 @@ even-at [] r i p q e = absurd (omega arith)
 even-at (x ∷ l) [] i p q e = absurd (omega arith)
 even-at (x ∷ l) (y ∷ r) zero p q e = even-head x y l r e
 even-at (x ∷ l) (y ∷ r) (suc i) p q e = even-at l r i (omega arith) (omega arith) (even-tail x y l r e)
+
+-- mid and side of equal parity: neither their sum nor their difference leaves 32 bits
+pub pairs-stay : (depth : ℕ) → depth ≤ 32 → (l r : List ℤ) → AllHold depth l → AllHold depth r → Even l r → (i : ℕ) → i < length l → i < length r → Stay (getD (pairwise mid l r) i (pos 0)) (getD (pairwise side l r) i (pos 0))
+pairs-stay depth high l r f g e i p q =
+    rw (pairwise-at mid l r i (pos 0) (pos 0) p q, pairwise-at side l r i (pos 0) (pos 0) p q)
+    (both-stay (2 ^ (depth - 1)) (top depth high) (getD l i (pos 0)) (getD r i (pos 0)) (f i) (g i) (even-at l r i p q e))
 
 -- ---- padding keeps the parity
 module _ where

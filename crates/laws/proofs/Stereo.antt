@@ -6,9 +6,8 @@ use mathlib.Core.List.{List, [], _∷_, _++_}
 use native.Mathlib.Omega.{arith}
 use lib.ListN.{length, getD, take}
 use lib.Seq.{ext-getD, getD-take, length-take-le}
-use lib.IntN.{ℤ, pos, _+ℤ_, _-ℤ_}
+use lib.IntN.{ℤ, pos}
 use Rattle.format.specs.Lists.{tab, pairwise, every}
-use Rattle.format.specs.Numbers.{holds}
 use Rattle.format.specs.MidSide.{left, right, leftRight}
 use Rattle.format.specs.Encoding.{channel, plain, padded, split, mid, side, midSide, equalParity, parity}
 use Rattle.format.specs.declared.settings.SampleFormat.the-variants.{Pcm}
@@ -16,8 +15,21 @@ use Rattle.laws.proofs.Tests.{never}
 use Rattle.laws.proofs.Parts.{length-tab}
 use Rattle.laws.proofs.Signs.{AllHold}
 use Rattle.laws.proofs.Wrap.{Fit}
-use Rattle.laws.proofs.Halves.{Even, length-pairwise, mid-holds, side-holds, lefts-back, rights-back, pairwise-at, even-padded, mid-back, side-back}
+use Rattle.laws.proofs.Halves.{Even, Stay, length-pairwise, mid-holds, side-holds, lefts-back, rights-back, pairwise-at, pairs-stay, even-padded, mid-back, side-back}
 use Rattle.laws.proofs.Channels.{Level}
+
+-- mid and side are as long as the two channels
+pub both-long : (chans : List (List ℤ)) (k : ℕ) → ((c : ℕ) → c < 2 → length (getD chans c []) ≡ k) → (c : ℕ) → c < 2 → length (getD (midSide chans) c []) ≡ k
+unfolding midSide
+both-long chans k long c q = by c q
+  where
+    pairs : (f : ℤ → ℤ → ℤ) → length (pairwise f (getD chans 0 []) (getD chans 1 [])) ≡ k
+    pairs f = length-pairwise f _ _ (long 0 (omega arith) ∙ sym (long 1 (omega arith))) ∙ long 0 (omega arith)
+
+    by : (c : ℕ) → c < 2 → length (getD (midSide chans) c []) ≡ k
+    by zero q = pairs mid
+    by (suc zero) q = pairs side
+    by (suc (suc c)) q = absurd (omega arith)
 
 -- two channels that b bits hold
 module _ (b n k : ℕ) (high : b ≤ 32) (two : n ≡ 2) (chans : List (List ℤ)) (level : Level b n k chans) where
@@ -42,13 +54,8 @@ module _ (b n k : ℕ) (high : b ≤ 32) (two : n ≡ 2) (chans : List (List ℤ
   -- mid and side are two such channels
   pub both-level : Level b n k (midSide chans)
   unfolding midSide
-  both-level = record { count = sym two; long = long; hold = hold }
+  both-level = record { count = sym two; long = λ c q. both-long chans k (λ d p. level .long d (omega arith)) c (omega arith); hold = hold }
     where
-      long : (c : ℕ) → c < n → length (getD (midSide chans) c []) ≡ k
-      long zero q = length-pairwise mid l r (l-long ∙ sym r-long) ∙ l-long
-      long (suc zero) q = length-pairwise side l r (l-long ∙ sym r-long) ∙ l-long
-      long (suc (suc c)) q = absurd (omega arith)
-
       hold : (c : ℕ) → c < n → AllHold b (getD (midSide chans) c [])
       hold zero q = mid-holds b high l r l-holds r-holds
       hold (suc zero) q = side-holds b high l r l-holds r-holds
@@ -74,6 +81,11 @@ module _ (b n k : ℕ) (high : b ≤ 32) (two : n ≡ 2) (chans : List (List ℤ
         pair (x ∷ []) e = absurd (omega arith)
         pair (x ∷ y ∷ []) e = refl
         pair (x ∷ y ∷ z ∷ xs) e = absurd (omega arith)
+
+    -- and no mid plus side or mid minus side leaves 32 bits
+    pub frames-stay : (i : ℕ) → i < k → Stay (getD (getD (midSide chans) 0 []) i (pos 0)) (getD (getD (midSide chans) 1 []) i (pos 0))
+    unfolding midSide
+    frames-stay i p = pairs-stay b high l r l-holds r-holds even-frames i (omega (arith, l-long)) (omega (arith, r-long))
 
 -- ---- left and right at frame i
 pub two-channels : (chans : List (List ℤ)) → length (leftRight Pcm chans) ≡ 2
@@ -116,7 +128,7 @@ module _ (S : ℕ → List ℤ) where
 
   -- in k frames where neither their sum nor their difference leaves 32 bits
   module _ (k : ℕ) (reach : (c : ℕ) → c < 2 → k ≤ length (S c)) (fits : (c : ℕ) → c < 2 → Fit (S c))
-      (stay : (i : ℕ) → i < k → (holds 32 (midOf i +ℤ sideOf i) ≡ true) × (holds 32 (midOf i -ℤ sideOf i) ≡ true))
+      (stay : (i : ℕ) → i < k → Stay (midOf i) (sideOf i))
       (chans : List (List ℤ)) (long : (c : ℕ) → c < 2 → length (getD chans c []) ≡ k)
       (read : (c i : ℕ) → c < 2 → i < k → getD (getD chans c []) i (pos 0) ≡ getD (getD (leftRight Pcm (tab 2 S)) c []) i (pos 0)) where
     pairs-kept : (f : ℤ → ℤ → ℤ) (c : ℕ) → c < 2 → ((i : ℕ) → i < k → f (left Pcm (midOf i) (sideOf i)) (right Pcm (midOf i) (sideOf i)) ≡ getD (S c) i (pos 0))

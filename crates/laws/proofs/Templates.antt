@@ -1,6 +1,6 @@
 -- What passed checks of a template's block and group tell, and that the new ones are as long.
 use Prim.Native.Nat.{ℕ, zero, suc, _+_, _*_, _≤_, _<_}
-use mathlib.Core.Path.{_≡_, refl, sym, ap, _∙_, subst}
+use mathlib.Core.Path.{_≡_, refl, ap, _∙_, subst}
 use mathlib.Core.Bool.{Bool, true, false, cond, not, _&&_}
 use mathlib.Core.List.{List, [], _++_}
 use native.Mathlib.Omega.{arith}
@@ -9,13 +9,13 @@ use lib.Seq.{length-take-le}
 use lib.IntN.{ℤ}
 use lib.Dec.{eqb}
 use borrow.Author.Tests.{le-ltb, ltb-false, ne-eqb, eqb-true, eqb-false, not-false}
-use Rattle.format.specs.Lists.{from, joined, pairwise, every}
+use Rattle.format.specs.Lists.{from, joined, every}
 use Rattle.format.specs.Numbers.{numAt, codeOf, holds}
 use Rattle.format.specs.Packed.{widthOf, packing, isBeyond}
 use Rattle.format.specs.declared.packed.Coding.{Coding}
 use Rattle.format.specs.declared.packed.Coding.the-variants.{Differences, Raw, Beyond}
 use Rattle.format.specs.Blocks.{isBlock, midBit, codingOf, sizeOf, rest}
-use Rattle.format.specs.Encoding.{plain, head0, mid, side, midSide, parity}
+use Rattle.format.specs.Encoding.{plain, head0, midSide, parity}
 use Rattle.format.specs.Reencoding.{valuesFor, baseFor, newBlock, checkNewBlock, activeIn, checkNewGroup, newGroup}
 use Rattle.format.specs.Refusals.{refuse}
 use Rattle.format.specs.declared.refusals.Refusal.the-variants.{WidthTooSmall}
@@ -24,8 +24,8 @@ use Rattle.laws.proofs.Parts.{length-from}
 use Rattle.laws.proofs.Checks.{pass, _and-then_, first-fine, others-fine, passed, order-fine}
 use Rattle.laws.proofs.Digits.{length-le}
 use Rattle.laws.proofs.Signs.{AllHold, length-packing, every-holds}
-use Rattle.laws.proofs.Halves.{length-pairwise}
 use Rattle.laws.proofs.Channels.{plain-long}
+use Rattle.laws.proofs.Stereo.{both-long}
 
 -- ---- what a passed check of a template's block tells
 pub record Template (depth : ℕ) (r : List ℕ) (xs : List ℤ) : Type 0 where
@@ -148,20 +148,15 @@ module _ (depth n : ℕ) (bs : List ℕ) (s : List ℤ) (fine : checkNewGroup de
 
   -- of any k frames z they are k a channel
   pub active-long : (k : ℕ) → 1 ≤ n → (z : List ℤ) → length z ≡ n * k → (c : ℕ) → c < n → length (getD (activeIn n bs z) c []) ≡ k
-  unfolding activeIn midSide
+  unfolding activeIn
   active-long k some z l = by (midBit bs) refl
     where
       each : (c : ℕ) → c < n → length (getD (plain n z) c []) ≡ k
       each = plain-long n k some z l
 
-      both : n ≡ 2 → (f : ℤ → ℤ → ℤ) → length (pairwise f (getD (plain n z) 0 []) (getD (plain n z) 1 [])) ≡ k
-      both two f = length-pairwise f _ _ (each 0 (omega arith) ∙ sym (each 1 (omega arith))) ∙ each 0 (omega arith)
-
       by : (t : Bool) → midBit bs ≡ t → (c : ℕ) → c < n → length (getD (cond t (midSide (plain n z)) (plain n z)) c []) ≡ k
       by false m c q = each c q
-      by true m zero q = both (two-ok m) mid
-      by true m (suc zero) q = both (two-ok m) side
-      by true m (suc (suc c)) q = absurd (omega (arith, two-ok m))
+      by true m c q = both-long (plain n z) k (λ d p. each d (omega (arith, two-ok m))) c (omega (arith, two-ok m))
 
   -- ---- the new blocks are as long as the template's
   abbrev B : ℕ → List ℕ

@@ -12,7 +12,7 @@ use Rattle.format.specs.Numbers.{le, digits}
 use Rattle.format.specs.Header.{signature, groupsOf}
 use Rattle.format.specs.Packed.{packing}
 use Rattle.format.specs.Blocks.{blockMark}
-use Rattle.format.specs.Encoding.{differences, width, head0, block, blockOf, blocks, groupAt, header, tableOf, assembled, fileOf}
+use Rattle.format.specs.Encoding.{split, differences, width, head0, block, blockOf, blocks, midSide, takesMid, groupOf, groupIn, groupAt, header, tableOf, assembled, fileOf}
 use Rattle.format.specs.declared.settings.PcmSpec.{PcmSpec}
 use Rattle.format.specs.declared.settings.StereoMode.{StereoMode}
 use Rattle.laws.proofs.Parts.{length-even}
@@ -98,3 +98,37 @@ unfolding fileOf
 file-length p mode s =
     let n = groupsOf (length s / p .channels) in
     assembled-length p (length s / p .channels) (groupAt p mode s) ∙ ap (λ (x : ℕ). offsetOf (length s / p .channels) + x) (length-sum (groupAt p mode s) n)
+
+-- the channels of group g as they are coded
+unfoldable pub codedAt : PcmSpec → StereoMode → List ℤ → ℕ → List (List ℤ)
+codedAt p mode s g =
+    let x = groupIn (p .channels) s g in
+    let both = midSide (split (p .channels) x) in
+    let chans = split (p .channels) x in
+    cond (takesMid mode (p .channels) (p .«bits_per_sample») x) both chans
+
+-- what their blocks take, each 16 + 64 × width
+abbrev pub blocksIn : ℕ → List (List ℤ) → ℕ
+blocksIn depth chans = sum (λ c. 16 + 64 * widthIn depth (getD chans c [])) (length chans)
+
+group-size : (p : PcmSpec) (mode : StereoMode) (s : List ℤ) (g : ℕ) → length (groupAt p mode s g) ≡ blocksIn (p .«bits_per_sample») (codedAt p mode s g)
+unfolding groupAt groupOf codedAt
+group-size p mode s g = by (takesMid mode (p .channels) depth x)
+  where
+    depth : ℕ
+    depth = p .«bits_per_sample»
+
+    x : List ℤ
+    x = groupIn (p .channels) s g
+
+    chans : List (List ℤ)
+    chans = split (p .channels) x
+
+    by : (t : Bool) → length (cond t (blocks depth 1 (midSide chans)) (blocks depth 0 chans)) ≡ blocksIn depth (cond t (midSide chans) chans)
+    by true = blocks-size depth 1 (midSide chans)
+    by false = blocks-size depth 0 chans
+
+-- length = data offset + sum of block lengths, each 16 + 64 × width
+pub file-size : (p : PcmSpec) (mode : StereoMode) (s : List ℤ)
+    → length (fileOf p mode s) ≡ offsetOf (length s / p .channels) + sum (λ g. blocksIn (p .«bits_per_sample») (codedAt p mode s g)) (groupsOf (length s / p .channels))
+file-size p mode s = file-length p mode s ∙ ap (λ (x : ℕ). offsetOf (length s / p .channels) + x) (sum-cong _ _ (group-size p mode s) (groupsOf (length s / p .channels)))

@@ -1,6 +1,6 @@
--- What is allowed is one outcome, and a refusal changes nothing: for every public function, over what it promises.
-use Prim.Native.Nat.{ℕ, _*_, _/_, _^_, _≤_, _<_}
-use mathlib.Core.Path.{_≡_, refl, sym, ap, _∙_}
+-- When a call refuses, that what is allowed is one outcome, and that a refusal changes nothing: for every public function, over what it promises.
+use Prim.Native.Nat.{ℕ, _/_, _^_, _≤_, _<_}
+use mathlib.Core.Path.{_≡_, refl, sym, _∙_}
 use mathlib.Core.Bool.{Bool, true, false, cond}
 use mathlib.Core.List.{List, []}
 use native.Mathlib.Omega.{arith}
@@ -9,16 +9,15 @@ use lib.IntN.{ℤ}
 use lib.Dec.{ltb}
 use borrow.Author.Tests.{ltb-false}
 use Rattle.format.specs.Numbers.{Below}
-use Rattle.format.specs.Header.{fieldsOf}
 use Rattle.format.specs.Refusals.{refuse, _then_}
 use Rattle.format.specs.Answers.{refusedBy, answered, filled}
-use Rattle.format.specs.Opening.{openOf, checkOpen}
+use Rattle.format.specs.Opening.{checkOpen, headerOf, openOf}
 use Rattle.format.specs.Decoding.{checkDecode, decodedOf, decodedCount, checkRoom, decodeOf, decodeInto}
 use Rattle.format.specs.Walking.{stepSamples, stepCount, isLeft, checkWalk, stepOf, stepInto}
 use Rattle.format.specs.Encoding.{fileOf, checkEncode, checkEncodeInto, encodeOf, encodeInto}
 use Rattle.format.specs.Reencoding.{refileOf, checkReencode, checkReencodeInto, reencodeOf, reencodeInto}
 use Rattle.format.specs.Boundary.{samplesFrom, sampleBytes, modeOf, checkMode, checkBytes, result, hostDecode, hostDecodeInto, checkHostEncode, hostEncode, hostEncodeInto, checkHostReencode, hostReencode, hostReencodeInto}
-use Rattle.format.specs.Promises.{Opens, Decodes, Steps, Encodes, Reencodes, HostOpens, HostDecodes, HostEncodes, HostReencodes}
+use Rattle.format.specs.Promises.{Opens, Decodes, Steps, Encodes, Reencodes, HostDecodes, HostEncodes, HostReencodes}
 use Rattle.format.specs.declared.units.Samples.{Samples}
 use Rattle.format.specs.declared.refusals.Refusal.{Refusal}
 use Rattle.format.specs.declared.refusals.Refusal.the-variants.{OutputTooShort}
@@ -27,13 +26,40 @@ use Rattle.format.specs.declared.refusals.Checked.the-variants.{Fine, No}
 use Rattle.format.specs.declared.settings.PcmSpec.{PcmSpec}
 use Rattle.format.specs.declared.settings.StereoMode.{StereoMode}
 use Rattle.format.specs.declared.answers.Outcome.{Outcome}
-use Rattle.format.specs.declared.answers.Outcome.the-variants.{Read, Finished, Wrote}
+use Rattle.format.specs.declared.answers.Outcome.the-variants.{Opened, Read, Finished, Wrote}
 use Rattle.format.specs.declared.answers.Answer.{Answer}
 use Rattle.lent.specs.Lent.{lentOf, restOf}
 use Rattle.lent.specs.declared.Container.{Container}
 use Rattle.lent.proofs.Outcome.{one-outcome}
-use Rattle.laws.proofs.Checks.{passed, first-fine, others-fine}
-use Rattle.promises.proofs.Outcomes.{isRefused, no-keeps, refused-keeps, host-refused}
+use Rattle.laws.proofs.Checks.{passed, others-fine}
+use Rattle.promises.proofs.Outcomes.{Exactly, isRefused, exactly-no, no-keeps, refused-keeps, host-refused}
+
+-- ---- each refusal has its exact condition: what the checks say, which stand in document 01's order
+
+pub record RefusedExactly : Type 0 where
+  pub opens : (s : List ℕ) (r : Answer) (x : Refusal) → Opens s r → Exactly (r ≡ refusedBy x) (checkOpen s ≡ No x)
+  pub decodes : (s : List ℕ) (lent after : List ℤ) (r : Answer) (x : Refusal) → Decodes s lent r after → Exactly (r ≡ refusedBy x) ((checkDecode s then checkRoom s (length lent)) ≡ No x)
+  pub steps : (s : List ℕ) (g : ℕ) (lent after : List ℤ) (r : Answer) (x : Refusal) → Steps s g lent r after → Exactly (r ≡ refusedBy x) (checkWalk s g (length lent) ≡ No x)
+  pub encodes : (p : PcmSpec) (mode : StereoMode) (s : List ℤ) (lent after : List ℕ) (r : Answer) (x : Refusal) → Encodes p mode s lent r after
+      → Exactly (r ≡ refusedBy x) (checkEncodeInto p mode s (length lent) ≡ No x)
+  pub reencodes : (p : PcmSpec) (s : List ℤ) (t lent after : List ℕ) (r : Answer) (x : Refusal) → Reencodes p s t lent r after
+      → Exactly (r ≡ refusedBy x) (checkReencodeInto p s t (length lent) ≡ No x)
+
+left-or-done : (b : Bool) (n : Samples) → isRefused (cond b (Read n) Finished) ≡ false
+left-or-done true n = refl
+left-or-done false n = refl
+
+pub refused-exactly : RefusedExactly
+unfolding openOf decodeOf stepOf encodeOf reencodeOf
+refused-exactly =
+    record {
+      opens = λ s r x e. exactly-no (checkOpen s) (Opened (headerOf s)) refl x r e;
+      decodes = λ s lent after r x e. exactly-no (checkDecode s then checkRoom s (length lent)) (Read (decodedCount s)) refl x r (e .0);
+      steps = λ s g lent after r x e.
+          exactly-no (checkWalk s g (length lent)) (cond (isLeft s g) (Read (stepCount s g)) Finished) (left-or-done (isLeft s g) (stepCount s g)) x r (e .0);
+      encodes = λ p mode s lent after r x e. exactly-no (checkEncodeInto p mode s (length lent)) (Wrote (length (fileOf p mode s))) refl x r (e .0);
+      reencodes = λ p s t lent after r x e. exactly-no (checkReencodeInto p s t (length lent)) (Wrote (length t)) refl x r (e .0);
+    }
 
 -- ---- 7. ONE OUTCOME
 
@@ -116,10 +142,6 @@ pub record RefusalsKeep : Type 0 where
 -- what passed the check of the room has room
 has-room : (a : Checked) (room m : ℕ) (r : Refusal) → (a then refuse (ltb room m) r) ≡ Fine → m ≤ room
 has-room a room m r e = ltb-false room m (passed _ _ (others-fine a _ e))
-
-left-or-done : (b : Bool) (n : Samples) → isRefused (cond b (Read n) Finished) ≡ false
-left-or-done true n = refl
-left-or-done false n = refl
 
 decode-keeps : (s : List ℕ) (lent : List ℤ) → Keeps (Decodes s lent) lent
 unfolding decodeOf decodeInto

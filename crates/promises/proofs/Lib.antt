@@ -19,9 +19,12 @@ pub mod Kept
 pub mod NewGroups
 pub mod Refile
 pub mod Again
+pub mod Files
 -- the walk; parity
 pub mod WalkLaws
 pub mod ParityLaws
 -- the demands
 pub mod Demands
 pub mod Certain
+pub mod Contents
+pub mod Impostors

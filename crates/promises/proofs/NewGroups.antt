@@ -31,7 +31,7 @@ use Rattle.laws.proofs.Wrap.{Fit}
 use Rattle.promises.proofs.BlockLaws.{Reads, fit}
 use Rattle.laws.proofs.Channels.{Level, plain-at, plain-level, woven-back, woven-at, active-low}
 use Rattle.promises.proofs.MidSums.{Stays}
-use Rattle.laws.proofs.Stereo.{both-level, both-back, two-channels, frame-same, both-kept}
+use Rattle.laws.proofs.Stereo.{both-level, both-back, frames-stay, two-channels, frame-same, both-kept}
 use Rattle.promises.proofs.GroupLaws.{not-float, front, rest-is, coded-is, group-fine, first-flags, first-mark, first-pcm, group-long}
 use Rattle.promises.proofs.GroupCoding.{Group}
 use Rattle.promises.proofs.NewBlocks.{newSamples, new-reads, block-same, check-same}
@@ -307,3 +307,20 @@ module _ {h : Fields} {g : ℕ} {bs : List ℕ} {s : List ℤ} (ok : Accepted h 
         nothing : (x : List ℕ) → length x ≡ 0 → x ≡ []
         nothing [] e = refl
         nothing (y ∷ x) e = absurd (omega arith)
+
+  -- ---- the converse: a group that stays
+  module _ (kept : newGroup (h .depth) n bs s ≡ bs) where
+    -- has the new samples
+    coded-kept : tab n S ≡ tab n X
+    unfolding newGroup coded
+    coded-kept = ap (coded (h .depth) n) (sym kept) ∙ coded-is h flags X B reads
+
+    kept-at : (c i : ℕ) → c < n → i < k → getD (S c) i (pos 0) ≡ getD (getD chans c []) i (pos 0)
+    kept-at c i q p = ap (λ (x : List ℤ). getD x i (pos 0)) (sym (getD-tab n S c [] q) ∙ ap (λ (cs : List (List ℤ)). getD cs c []) coded-kept) ∙ new-at c i q p
+
+    -- so no sum leaves 32 bits
+    pub group-stays : midBit bs ≡ true → (i : ℕ) → i < k → Stays (h .depth) bs i
+    group-stays m i p =
+        let two = two-ok m in
+        rw (kept-at 0 i (omega arith) p, kept-at 1 i (omega arith) p, chans-both m)
+        (frames-stay (h .depth) n k (ok .high) two (plain n s) plains (T.even-ok (h .depth) n bs s (ok .fine) m) i p)

@@ -1,5 +1,5 @@
 -- Outcomes read backwards: from what was answered, what the checks said and what lent memory holds.
-use Prim.Native.Nat.{ℕ, _+_, _*_, _^_, _≤_, _<_}
+use Prim.Native.Nat.{ℕ, _*_, _^_, _≤_, _<_}
 use mathlib.Core.Path.{_≡_, refl, sym, ap, ap₂, _∙_}
 use mathlib.Core.Bool.{Bool, true, false}
 use mathlib.Core.List.{List}
@@ -27,6 +27,10 @@ use Rattle.format.specs.Promises.{Decodes}
 use Rattle.laws.proofs.Checks.{pass, _and-then_, first-fine}
 use Rattle.laws.proofs.Lengths.{decode-writes}
 
+-- A exactly when B
+abbrev pub Exactly : Type 0 → Type 0 → Type 0
+Exactly A B = (A → B) × (B → A)
+
 abbrev pub isRefused : Outcome → Bool
 isRefused (Refused r) = true
 isRefused (Opened h) = false
@@ -51,9 +55,12 @@ module _ (c : Checked) (o x : Outcome) (success : isRefused x ≡ false) (e : an
 
 -- ---- what is refused is what the checks refuse, and exactly that
 module _ (o : Outcome) (success : isRefused o ≡ false) (r : Refusal) where
-  pub refused-no : (c : Checked) → refusedBy r ≡ answered c o → c ≡ No r
+  refused-no : (c : Checked) → refusedBy r ≡ answered c o → c ≡ No r
   refused-no Fine e = never (ap (λ (a : Answer). isRefused (a .outcome)) e ∙ success)
   refused-no (No x) e = let q : Refused r ≡ Refused x = ap (λ (a : Answer). a .outcome) e in cc
+
+pub exactly-no : (c : Checked) (o : Outcome) → isRefused o ≡ false → (r : Refusal) (a : Answer) → a ≡ answered c o → Exactly (a ≡ refusedBy r) (c ≡ No r)
+exactly-no c o success r a e = (λ q. refused-no o success r c (sym q ∙ e), λ q. e ∙ ap (λ (k : Checked). answered k o) q)
 
 -- and then nothing changes
 pub no-keeps : {A : Type 0} (c : Checked) (r : Refusal) (w before after : List A) → c ≡ No r → after ≡ filled c w before → after ≡ before
@@ -81,12 +88,12 @@ module _ (f : List ℕ) (lent after : List ℤ) (n : ℕ) (d : Decodes f lent (r
   abbrev c : Checked
   c = checkDecode f then checkRoom f (length lent)
 
-  all-passed : c ≡ Fine
+  pub read-passed : c ≡ Fine
   unfolding decodeOf
-  all-passed = succeeds-fine c (Read (decodedCount f)) (Read (record { 0 = n })) refl (d .0)
+  read-passed = succeeds-fine c (Read (decodedCount f)) (Read (record { 0 = n })) refl (d .0)
 
   pub read-fine : checkDecode f ≡ Fine
-  read-fine = first-fine _ _ all-passed
+  read-fine = first-fine _ _ read-passed
 
   pub read-count : n ≡ fieldsOf f .frames * fieldsOf f .channels
   unfolding decodeOf
@@ -98,7 +105,7 @@ module _ (f : List ℕ) (lent after : List ℤ) (n : ℕ) (d : Decodes f lent (r
   -- they are what it decodes to
   pub samples-read : take n after ≡ decodedOf f
   unfolding decodeInto
-  samples-read = written-front c n (decodedOf f) lent after all-passed (read-count ∙ mul-comm (fieldsOf f .frames) (fieldsOf f .channels) ∙ sym (decode-writes f read-fine)) (d .1)
+  samples-read = written-front c n (decodedOf f) lent after read-passed (read-count ∙ mul-comm (fieldsOf f .frames) (fieldsOf f .channels) ∙ sym (decode-writes f read-fine)) (d .1)
 
 -- ---- a file that decodes to s, into enough room
 module _ (f : List ℕ) (s : List ℤ) (fine : checkDecode f ≡ Fine) (gives : decodedOf f ≡ s) (out : List ℤ) (room : length s ≤ length out) where
@@ -118,6 +125,10 @@ module _ (f : List ℕ) (s : List ℤ) (fine : checkDecode f ≡ Fine) (gives : 
   pub writes-all : decodeInto f out ≡ over s out
   unfolding decodeInto
   writes-all = ap₂ (λ (c : Checked) (w : List ℤ). filled c w out) all-fine gives
+
+-- a file that decodes to s, whatever is lent that has room
+pub decodes-to : (f : List ℕ) (s out after : List ℤ) (r : Answer) → checkDecode f ≡ Fine → decodedOf f ≡ s → length s ≤ length out → Decodes f out r after → (r ≡ read (length s)) × (after ≡ over s out)
+decodes-to f s out after r fine gives room d = (d .0 ∙ reads-all f s fine gives out room, d .1 ∙ writes-all f s fine gives out room)
 
 -- ---- at the host boundary a refusal is a number from 2 ^ 63 on, and a length below it: no slice is as long as that
 module _ (c : Checked) (o : Outcome) where

@@ -14,13 +14,16 @@ use Rattle.format.specs.Lists.{from, pairwise, every, anyBelow}
 use Rattle.format.specs.Header.{groupsOf}
 use Rattle.format.specs.Refusals.{refuse, _then_}
 use Rattle.format.specs.Decoding.{active}
-use Rattle.format.specs.Encoding.{equalParity, parity, plain, groupIn, checkStereo, isMidSide}
+use Rattle.format.specs.Encoding.{equalParity, parity, plain, groupIn, checkSpec, checkEncoder, checkSamples, isMidSide, checkStereo, checkSize, checkEncode, checkEncodeInto}
 use Rattle.format.specs.declared.settings.PcmSpec.{PcmSpec}
+use Rattle.format.specs.declared.settings.StereoMode.{StereoMode}
 use Rattle.format.specs.declared.settings.StereoMode.the-variants.{MidSide}
-use Rattle.format.specs.declared.refusals.Checked.the-variants.{No}
+use Rattle.format.specs.declared.refusals.Checked.{Checked}
+use Rattle.format.specs.declared.refusals.Checked.the-variants.{Fine, No}
 use Rattle.format.specs.declared.refusals.Refusal.the-variants.{NotStereo, ParityDiffers}
 use Rattle.laws.proofs.Tests.{never, either}
-use Rattle.laws.proofs.Checks.{found-below}
+use Rattle.laws.proofs.Checks.{_and-then_, first-fine, others-fine, Unsaid, unsaid, _nor_, said-after, said-before, found-below}
+use Rattle.laws.proofs.SampleChecks.{frames-ok}
 use Rattle.laws.proofs.Halves.{even-at}
 use Rattle.laws.proofs.Channels.{plain-at, plain-long, group-length}
 
@@ -158,3 +161,45 @@ module _ (p : PcmSpec) (s : List ℤ) (two : p .channels ≡ 2) (l : length s �
   pub when-refuses : Some (oddFrame s) (length s / 2) → checkStereo p MidSide s ≡ No ParityDiffers
   unfolding refuse
   when-refuses o = stereo-is ∙ ap (λ (b : Bool). refuse b ParityDiffers) (below-some _ _ (odd-group s (length s / 2) l o))
+
+-- ---- so does encoding: its other checks do not say 35
+
+spec-unsaid : (p : PcmSpec) → Unsaid ParityDiffers (checkEncoder p)
+unfolding checkEncoder checkSpec
+spec-unsaid p = unsaid _ _ _ refl nor unsaid _ _ _ refl nor unsaid _ _ _ refl nor unsaid _ _ _ refl
+
+samples-unsaid : (p : PcmSpec) (s : List ℤ) → Unsaid ParityDiffers (checkSamples p s)
+unfolding checkSamples
+samples-unsaid p s = unsaid _ _ _ refl nor unsaid _ _ _ refl nor unsaid _ _ _ refl
+
+size-unsaid : (p : PcmSpec) (mode : StereoMode) (s : List ℤ) → Unsaid ParityDiffers (checkSize p mode s)
+unfolding checkSize
+size-unsaid p mode s = unsaid _ _ _ refl
+
+module _ (p : PcmSpec) (s : List ℤ) (two : p .channels ≡ 2) (room : ℕ) where
+  -- 30 to 33
+  abbrev pub earlier : Checked
+  earlier = checkEncoder p then checkSamples p s
+
+  abbrev pub oddSome : Type 0
+  oddSome = Some (oddFrame s) (length s / 2)
+
+  whole : checkSamples p s ≡ Fine → length s ≡ 2 * (length s / 2)
+  whole ok = subst (λ (c : ℕ). length s ≡ c * (length s / c)) two (frames-ok p s ok)
+
+  pub parity-so : checkEncodeInto p MidSide s room ≡ No ParityDiffers → (earlier ≡ Fine) × oddSome
+  unfolding checkEncodeInto checkEncode
+  parity-so e =
+      let a = said-before ParityDiffers _ _ (unsaid _ _ _ refl) e in
+      let b = said-after ParityDiffers _ _ (spec-unsaid p) a in
+      let c = said-after ParityDiffers _ _ (samples-unsaid p s) (b .1) in
+      let d = said-before ParityDiffers _ _ (size-unsaid p MidSide s) (c .1) in
+      ((b .0) and-then (c .0), refuses-when p s two (whole (c .0)) d)
+
+  pub so-parity : earlier ≡ Fine → oddSome → checkEncodeInto p MidSide s room ≡ No ParityDiffers
+  unfolding checkEncodeInto checkEncode _then_
+  so-parity e o =
+      let a : checkEncoder p ≡ Fine = first-fine (checkEncoder p) (checkSamples p s) e in
+      let b : checkSamples p s ≡ Fine = others-fine (checkEncoder p) (checkSamples p s) e in
+      let c : checkStereo p MidSide s ≡ No ParityDiffers = when-refuses p s two (whole b) o in
+      rw (a, b, c) refl

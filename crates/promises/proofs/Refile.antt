@@ -32,7 +32,7 @@ use Rattle.laws.proofs.SampleChecks.{Valid, reencoder-ok, values-ok}
 use Rattle.laws.proofs.TemplateFiles as F
 use Rattle.promises.proofs.Bytes.{below-group}
 use Rattle.promises.proofs.MidSums.{NoneLeaves}
-use Rattle.promises.proofs.NewGroups.{Accepted, new-group, template-group, group-kept}
+use Rattle.promises.proofs.NewGroups.{Accepted, new-group, template-group, group-kept, group-stays}
 
 from-none : (i : ℕ) (s : List ℕ) → from i 0 s ≡ []
 unfolding from
@@ -250,3 +250,7 @@ module _ (p : PcmSpec) (s : List ℤ) (t : List ℕ) (ok : checkReencode p s t �
     template-kept =
         F.file-is p s t ok ∙ ap (λ (x : List ℕ). front ++ (x ++ back)) (joined-cong part (group t h) count part-kept)
         ∙ ap (λ (x : List ℕ). front ++ x) data-there ∙ take-append-drop (h .start) t
+
+  -- and only then: where the new file is the template, no sum leaves 32 bits
+  pub kept-stays : refileOf s t ≡ t → NoneLeaves t
+  kept-stays kept g i l m q = group-stays (accepted g l) (sym (group-new g l) ∙ ap (λ (f : List ℕ). group f h g) kept) m i q

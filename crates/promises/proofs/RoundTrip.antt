@@ -1,29 +1,23 @@
 -- Encoding, then decoding, gives the samples back.
-use Prim.Native.Nat.{ℕ, _*_, _/_, _≤_, _<_}
-use mathlib.Core.Path.{_≡_, refl, ap, ap₂, _∙_, subst}
+use Prim.Native.Nat.{ℕ, _/_, _<_}
+use mathlib.Core.Path.{_≡_, refl, ap, _∙_, subst}
 use mathlib.Core.Bool.{Bool, true, false, not, _&&_}
 use mathlib.Core.List.{List}
 use native.Mathlib.Omega.{arith}
-use native.Mathlib.Nat.{mul-comm}
-use lib.ListN.{length, take, drop}
-use lib.Seq.{take-at}
+use lib.ListN.{length}
 use lib.IntN.{ℤ}
 use lib.Dec.{eqb}
-use borrow.Author.Tests.{ltb-false, eqb-true, le-ltb, not-false}
-use Rattle.format.specs.Lists.{anyBelow, over}
-use Rattle.format.specs.Header.{fieldsOf, groupsOf}
-use Rattle.format.specs.Refusals.{_then_}
-use Rattle.format.specs.Answers.{answered, filled}
-use Rattle.format.specs.Decoding.{checkDecode, decodedOf, checkRoom, decodeOf, decodeInto}
-use Rattle.format.specs.Encoding.{parity, plain, groupIn, isMidSide, checkEncoder, checkSamples, checkStereo, groupAt, fileOf, checkSize, checkEncode, checkEncodeInto, encodeOf, encodeInto}
-use Rattle.format.specs.declared.refusals.Checked.{Checked}
-use Rattle.format.specs.declared.refusals.Checked.the-variants.{Fine, No}
+use borrow.Author.Tests.{ltb-false, eqb-true, not-false}
+use Rattle.format.specs.Lists.{anyBelow}
+use Rattle.format.specs.Header.{groupsOf}
+use Rattle.format.specs.Decoding.{checkDecode, decodedOf}
+use Rattle.format.specs.Encoding.{parity, plain, groupIn, isMidSide, checkEncoder, checkSamples, checkStereo, groupAt, fileOf, checkSize, checkEncode}
+use Rattle.format.specs.declared.refusals.Checked.the-variants.{Fine}
 use Rattle.format.specs.declared.settings.PcmSpec.{PcmSpec}
 use Rattle.format.specs.declared.settings.StereoMode.{StereoMode}
 use Rattle.format.specs.declared.settings.StereoMode.the-variants.{MidSide}
 use Rattle.format.specs.declared.answers.Fields.{Fields}
-use Rattle.format.specs.declared.answers.Outcome.the-variants.{Read, Wrote}
-use Rattle.laws.proofs.Checks.{pass, _and-then_, first-fine, others-fine, passed, found-below}
+use Rattle.laws.proofs.Checks.{first-fine, others-fine, passed, found-below}
 use Rattle.laws.proofs.Channels.{group-length, group-holds, groups-joined}
 use Rattle.promises.proofs.GroupCoding.{Group, group-codes}
 use Rattle.promises.proofs.Laid.{Layout, decode-fine, decode-gives}

@@ -1,0 +1,111 @@
+-- What is written is fixed in every group and in its length.
+use Prim.Native.Nat.{ℕ, _+_, _*_, _/_, _<_, min}
+use mathlib.Core.Path.{_≡_, sym, ap, _∙_}
+use mathlib.Core.List.{List, [], _++_}
+use native.Mathlib.Omega.{arith}
+use lib.ListN.{length, take, drop}
+use lib.IntN.{ℤ}
+use Rattle.format.specs.Lists.{joined, from, over}
+use Rattle.format.specs.Header.{fieldsOf, groupsOf, group}
+use Rattle.format.specs.Answers.{filled, read, wrote}
+use Rattle.format.specs.Opening.{checkOpen, formatOf}
+use Rattle.format.specs.Decoding.{checkGroup, active, checkDecode, decodedOf, decodeInto}
+use Rattle.format.specs.Walking.{stepSamples}
+use Rattle.format.specs.Encoding.{groupIn, groupAt, fileOf}
+use Rattle.format.specs.Reencoding.{newGroup}
+use Rattle.format.specs.Promises.{Decodes, Encodes, Reencodes}
+use Rattle.format.specs.declared.refusals.Checked.{Checked}
+use Rattle.format.specs.declared.settings.PcmSpec.{PcmSpec}
+use Rattle.format.specs.declared.settings.StereoMode.{StereoMode}
+use Rattle.format.specs.declared.answers.Fields.{Fields}
+use Rattle.laws.proofs.Parts.{part-at}
+use Rattle.laws.proofs.Checks.{first-fine, others-fine, order-fine}
+use Rattle.laws.proofs.Opened.{opened-fields, some-channels}
+use Rattle.laws.proofs.Lengths.{group-writes, active-sum}
+use Rattle.laws.proofs.Channels.{group-starts}
+use Rattle.laws.proofs.Written.{sum, offsetOf, blocksIn, codedAt, file-size}
+use Rattle.promises.proofs.Outcomes.{read-passed, read-fine, read-count}
+use Rattle.promises.proofs.RoundTrip as RoundTrip
+use Rattle.promises.proofs.Refile as Refile
+use Rattle.promises.proofs.WalkLaws.{steps-joined}
+use Rattle.promises.proofs.Files.{encode-ok, file-long, file-written, reencode-ok, as-long, new-file}
+use Rattle.promises.proofs.Demands.{Rate32}
+
+-- ---- every group
+pub record EveryGroup : Type 0 where
+  -- the samples of group g lie where its frames do
+  pub decoded : (s : List ℕ) (lent after : List ℤ) (n : ℕ) → Decodes s lent (read n) after
+      → let h = fieldsOf s in (g : ℕ) → g < groupsOf (h .frames) → from (512 * h .channels * g) (h .channels * active (h .frames) g) after ≡ stepSamples s g
+  -- group g of the file is that of the samples' group g
+  pub encoded : (p : PcmSpec) (mode : StereoMode) (s : List ℤ) (lent file : List ℕ) (n : ℕ) → Rate32 p → Encodes p mode s lent (wrote n) file
+      → (g : ℕ) → g < groupsOf (length s / p .channels) → group (take n file) (fieldsOf (take n file)) g ≡ groupAt p mode s g
+  -- made of the template's group g, and with the template's header
+  pub reencoded : (p : PcmSpec) (s : List ℤ) (t lent file : List ℕ) (n : ℕ) → Reencodes p s t lent (wrote n) file
+      → let h = fieldsOf t in (fieldsOf (take n file) ≡ h) × ((g : ℕ) → g < groupsOf (h .frames) → group (take n file) h g ≡ newGroup (h .depth) (h .channels) (group t h g) (groupIn (h .channels) s g))
+
+-- of a file that decoded
+module _ (s : List ℕ) (lent after : List ℤ) (n : ℕ) (d : Decodes s lent (read n) after) where
+  abbrev h : Fields
+  h = fieldsOf s
+
+  abbrev count : ℕ
+  count = groupsOf (h .frames)
+
+  step-long : (g : ℕ) → g < count → length (stepSamples s g) ≡ h .channels * active (h .frames) g
+  unfolding stepSamples checkDecode
+  step-long g l =
+      let fine = read-fine s lent after n d in
+      group-writes h (formatOf s h) (group s h g) (some-channels h (opened-fields s (first-fine _ _ fine)))
+      (order-fine (λ g. checkGroup h (formatOf s h) (group s h g)) g count l (others-fine (checkOpen s) _ fine)) g
+
+  starts : (g : ℕ) → g < count → 512 * h .channels * g ≡ length (joined (stepSamples s) g)
+  unfolding groupsOf
+  starts g l =
+      let e : min (h .frames) (512 * g) ≡ 512 * g = omega arith in
+      group-starts (h .channels) g ∙ ap (λ (x : ℕ). h .channels * x) (sym e) ∙ sym (active-sum (h .frames) (h .channels) (stepSamples s) g (λ j q. step-long j (omega arith)))
+
+  lies : after ≡ joined (stepSamples s) count ++ drop (length (decodedOf s)) lent
+  unfolding decodeInto over
+  lies =
+      d .1 ∙ ap (λ (c : Checked). filled c (decodedOf s) lent) (read-passed s lent after n d)
+      ∙ ap (λ (x : List ℤ). x ++ drop (length (decodedOf s)) lent) (steps-joined s)
+
+  step-lies : (g : ℕ) → g < count → from (512 * h .channels * g) (h .channels * active (h .frames) g) after ≡ stepSamples s g
+  step-lies g l =
+      ap (from (512 * h .channels * g) (h .channels * active (h .frames) g)) lies
+      ∙ part-at (stepSamples s) g count (512 * h .channels * g) (h .channels * active (h .frames) g) [] (drop (length (decodedOf s)) lent) l (starts g l ∙ zero-plus) (sym (step-long g l))
+    where
+      zero-plus : length (joined (stepSamples s) g) ≡ 0 + length (joined (stepSamples s) g)
+      zero-plus = omega arith
+
+pub every-group : EveryGroup
+every-group =
+    record {
+      decoded = step-lies;
+      encoded = λ p mode s lent file n rate e g l.
+          let ok = encode-ok p mode s lent file n e in
+          let lay = RoundTrip.layout p mode s ok rate in
+          ap (λ (f : List ℕ). group f (fieldsOf f) g) (file-written p mode s lent file n e) ∙ ap (λ (x : Fields). group (fileOf p mode s) x g) (lay .fields) ∙ lay .groups g l;
+      reencoded = λ p s t lent file n e.
+          let ok = reencode-ok p s t lent file n e in
+          let f = new-file p s t lent file n e in
+          (ap fieldsOf f ∙ Refile.fields-same p s t ok, λ g l. ap (λ (x : List ℕ). group x (fieldsOf t) g) f ∙ Refile.group-new p s t ok g l);
+    }
+
+-- ---- the length
+pub record LengthsAre : Type 0 where
+  -- frames × channels
+  pub decoded : (s : List ℕ) (lent after : List ℤ) (n : ℕ) → Decodes s lent (read n) after → n ≡ fieldsOf s .frames * fieldsOf s .channels
+  -- the data offset and the sum of block lengths, each 16 + 64 × width
+  pub encoded : (p : PcmSpec) (mode : StereoMode) (s : List ℤ) (lent file : List ℕ) (n : ℕ) → Encodes p mode s lent (wrote n) file
+      → let frames = length s / p .channels in n ≡ offsetOf frames + sum (λ g. blocksIn (p .«bits_per_sample») (codedAt p mode s g)) (groupsOf frames)
+  -- the template's
+  pub reencoded : (p : PcmSpec) (s : List ℤ) (t lent file : List ℕ) (n : ℕ) → Reencodes p s t lent (wrote n) file → n ≡ length t
+
+pub lengths-are : LengthsAre
+lengths-are =
+    record {
+      decoded = read-count;
+      encoded = λ p mode s lent file n e. file-long p mode s lent file n e ∙ file-size p mode s;
+      reencoded = as-long;
+    }
