@@ -1,11 +1,11 @@
 -- Channels of interleaved samples, padded, and woven again, over the channel count.
-use Prim.Native.Nat.{ℕ, zero, suc, _+_, _-_, _*_, _/_, _≤_, _<_, min}
+use Prim.Native.Nat.{ℕ, suc, _+_, _-_, _*_, _/_, _≤_, _<_, min}
 use native.Mathlib.Decide.{decLe}
 use mathlib.Core.Path.{_≡_, refl, sym, ap, ap₂, _∙_}
 use mathlib.Core.List.{List, [], _∷_, _++_, map}
 use native.Mathlib.Omega.{arith}
 use native.Mathlib.Nat.{mul-div-right, mul-comm, mul-sub, mul-assoc, mul-le-mul-left, mul-suc}
-use lib.ListN.{length, getD, take, drop, length-append, length-replicate, length-take, length-drop, length-map, List·getD-append}
+use lib.ListN.{length, getD, take, drop, length-append, length-replicate, length-take, length-drop, length-map, List·getD-append, List·getD-map}
 use lib.Seq.{getD-take, getD-drop, take-all, length-take-le, ext-getD, getD-append-add}
 use lib.IntN.{ℤ, pos}
 use lib.Pow.{pow-pos}
@@ -14,7 +14,7 @@ use Rattle.format.specs.Header.{groupsOf}
 use Rattle.format.specs.Decoding.{woven, active}
 use Rattle.format.specs.Encoding.{channel, plain, padded, split, groupIn}
 use Rattle.laws.proofs.Parts.{length-tab, getD-tab, joined-cong, joined-from, around, length-even}
-use Rattle.laws.proofs.Each.{each-append, each-tab, each-replicate, each-from}
+use Rattle.laws.proofs.Each.{Each, each-append, each-tab, each-replicate, each-from, each-joined}
 use Rattle.laws.proofs.Signs.{Holds, AllHold}
 
 last-holds : (b : ℕ) (d : ℤ) (xs : List ℤ) → Holds b d → AllHold b xs → Holds b (lastOr d xs)
@@ -44,7 +44,7 @@ module _ (n k : ℕ) (some : 1 ≤ n) (s : List ℤ) (l : length s ≡ n * k) wh
 
   pub channel-holds : (b c : ℕ) → AllHold b s → AllHold b (channel n s c)
   unfolding channel
-  channel-holds b c h = each-tab (Holds b) (pos 0) (pow-pos (b - 1)) (length s / n) (λ i. getD s (i * n + c) (pos 0)) (λ i. h (i * n + c))
+  channel-holds b c h = each-tab (Holds b) (pos 0) (pow-pos (b - 1)) (length s / n) (λ i. getD s (i * n + c) (pos 0)) (λ i q. h (i * n + c))
 
   -- as they stand
   pub plain-is : (c : ℕ) → c < n → getD (plain n s) c [] ≡ channel n s c
@@ -101,11 +101,6 @@ module _ (n k : ℕ) (some : 1 ≤ n) (s : List ℤ) (l : length s ≡ n * k) wh
         }
 
 -- ---- channels whose first k samples are those of s, woven
-getD-map : {A B : Type 0} (f : A → B) (l : List A) (a : A) (d : B) (i : ℕ) → i < length l → getD (map f l) i d ≡ f (getD l i a)
-getD-map f [] a d i h = absurd (omega arith)
-getD-map f (x ∷ l) a d zero h = refl
-getD-map f (x ∷ l) a d (suc i) h = getD-map f l a d i (omega arith)
-
 -- frame i of the channels
 frameOf : List (List ℤ) → ℕ → List ℤ
 frameOf chans i = map (λ (ch : List ℤ). getD ch i (pos 0)) chans
@@ -114,9 +109,9 @@ frame-length : (chans : List (List ℤ)) (i : ℕ) → length (frameOf chans i) 
 unfolding frameOf
 frame-length chans i = length-map chans (λ (ch : List ℤ). getD ch i (pos 0))
 
-frame-at : (chans : List (List ℤ)) (i c : ℕ) → c < length chans → getD (frameOf chans i) c (pos 0) ≡ getD (getD chans c []) i (pos 0)
+frame-at : (chans : List (List ℤ)) (i c : ℕ) → getD (frameOf chans i) c (pos 0) ≡ getD (getD chans c []) i (pos 0)
 unfolding frameOf
-frame-at chans i c h = getD-map (λ (ch : List ℤ). getD ch i (pos 0)) chans [] (pos 0) c h
+frame-at chans i c = List·getD-map (λ (ch : List ℤ). getD ch i (pos 0)) chans c []
 
 woven-is : (k : ℕ) (chans : List (List ℤ)) → woven k chans ≡ joined (frameOf chans) k
 unfolding woven frameOf
@@ -132,7 +127,7 @@ module _ (n k : ℕ) (s : List ℤ) (l : length s ≡ n * k) (chans : List (List
       let wide : length (frameOf chans i) ≡ n = frame-length chans i ∙ m in
       ext-getD (pos 0) (frameOf chans i) (take n (drop (n * i) s)) (wide ∙ sym long)
       (λ c p. let q : c < n = omega arith in
-      frame-at chans i c (omega arith) ∙ are c i q h ∙ ap (λ (x : ℕ). getD s (x + c) (pos 0)) (mul-comm i n)
+      frame-at chans i c ∙ are c i q h ∙ ap (λ (x : ℕ). getD s (x + c) (pos 0)) (mul-comm i n)
       ∙ sym (getD-take n (drop (n * i) s) c (pos 0) q ∙ getD-drop (n * i) s c (pos 0)))
 
   -- they give s back
@@ -148,7 +143,12 @@ woven-at n k chans m c i q h =
     ap₂ (λ (l : List ℤ) (x : ℕ). getD l x (pos 0)) (woven-is k chans ∙ a .1) e
     ∙ getD-append-add (joined (frameOf chans) i) (frameOf chans i ++ a .0) c (pos 0)
     ∙ List·getD-append (frameOf chans i) (a .0) (pos 0) c (omega (arith, w i))
-    ∙ frame-at chans i c (omega arith)
+    ∙ frame-at chans i c
+
+-- what holds of each sample of the channels holds of them woven
+pub each-woven : (P : ℤ → Type 0) → P (pos 0) → (k : ℕ) (chans : List (List ℤ)) → Each (Each P (pos 0)) [] chans → Each P (pos 0) (woven k chans)
+unfolding woven frameOf
+each-woven P z k chans p = each-joined P (pos 0) z (frameOf chans) k (λ i l c. rw (frame-at chans i c) (p c i))
 
 -- the padded channels give their samples back
 pub woven-split : (n k : ℕ) → 1 ≤ n → k ≤ 512 → (s : List ℤ) → length s ≡ n * k → woven k (split n s) ≡ s

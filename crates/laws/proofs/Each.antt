@@ -3,10 +3,11 @@ use Prim.Native.Nat.{ℕ, zero, suc, _+_, _<_, _≤_}
 use mathlib.Core.Path.{_≡_, sym, ap, ap₂, _∙_}
 use mathlib.Core.Bool.{Bool, true, false, _&&_}
 use mathlib.Core.List.{List, [], _∷_, _++_}
+use native.Mathlib.Omega.{arith}
 use native.Mathlib.Numerals.{add-one}
 use lib.ListN.{length, getD, take, drop, replicate, drop-of-length-le}
 use lib.Seq.{getD-drop, drop-cons}
-use Rattle.format.specs.Lists.{tab, from, every}
+use Rattle.format.specs.Lists.{tab, joined, from, pairwise, every}
 
 -- P of each element, and of d, which stands past the end
 abbrev pub Each : {A : Type 0} → (A → Type 0) → A → List A → Type 0
@@ -31,16 +32,28 @@ module _ {A : Type 0} (P : A → Type 0) (d : A) (pd : P d) where
   unfolding from
   each-from k n xs p = each-take n (drop k xs) (each-drop k xs p)
 
-  pub each-tab : (n : ℕ) (f : ℕ → A) → ((k : ℕ) → P (f k)) → Each P d (tab n f)
+  pub each-tab : (n : ℕ) (f : ℕ → A) → ((k : ℕ) → k < n → P (f k)) → Each P d (tab n f)
   unfolding tab
   each-tab zero f h i = pd
-  each-tab (suc n) f h zero = h 0
-  each-tab (suc n) f h (suc i) = each-tab n (λ k. f (suc k)) (λ k. h (suc k)) i
+  each-tab (suc n) f h zero = h 0 (omega arith)
+  each-tab (suc n) f h (suc i) = each-tab n (λ k. f (suc k)) (λ k l. h (suc k) (omega arith)) i
 
   pub each-replicate : (n : ℕ) (x : A) → P x → Each P d (replicate n x)
   each-replicate zero x h i = pd
   each-replicate (suc n) x h zero = h
   each-replicate (suc n) x h (suc i) = each-replicate n x h i
+
+  pub each-joined : (part : ℕ → List A) (n : ℕ) → ((k : ℕ) → k < n → Each P d (part k)) → Each P d (joined part n)
+  unfolding joined
+  each-joined part zero h i = pd
+  each-joined part (suc n) h i = each-append (joined part n) (part n) (each-joined part n (λ k l. h k (omega arith))) (h n (omega arith)) i
+
+  pub each-pairwise : {B : Type 0} (Q : B → Type 0) (z : B) (f : B → B → A) → ((x y : B) → Q x → Q y → P (f x y)) → (xs ys : List B) → Each Q z xs → Each Q z ys → Each P d (pairwise f xs ys)
+  unfolding pairwise
+  each-pairwise Q z f h [] ys p q i = pd
+  each-pairwise Q z f h (x ∷ xs) [] p q i = pd
+  each-pairwise Q z f h (x ∷ xs) (y ∷ ys) p q zero = h x y (p 0) (q 0)
+  each-pairwise Q z f h (x ∷ xs) (y ∷ ys) p q (suc i) = each-pairwise Q z f h xs ys (λ j. p (suc j)) (λ j. q (suc j)) i
 
 -- ---- every element has p: so had all before i, if ok, and so have those from i on
 module _ {A : Type 0} (p : A → Bool) (s : List A) {t : Bool} (i : ℕ) where

@@ -17,6 +17,7 @@ use Rattle.format.specs.MidSide.{left, right}
 use Rattle.format.specs.Encoding.{padded, mid, side, equalParity}
 use Rattle.format.specs.declared.settings.SampleFormat.the-variants.{Pcm}
 use Rattle.laws.proofs.Tests.{and-left, and-right}
+use Rattle.laws.proofs.Each.{each-pairwise}
 use Rattle.laws.proofs.Signs.{Holds, AllHold}
 use Rattle.laws.proofs.Wrap.{wrap-fits}
 use Rattle.laws.proofs.Up.{up, up-inj, mag-up, up-low, up-high, up-add, up-sub, up-half}
@@ -204,11 +205,7 @@ module _ (depth : ℕ) (high : depth ≤ 32) where
 
   -- what holds of each pair holds of the channels
   pairs-hold : (f : ℤ → ℤ → ℤ) → ((x y : ℤ) → Holds depth x → Holds depth y → Holds depth (f x y)) → (l r : List ℤ) → AllHold depth l → AllHold depth r → AllHold depth (pairwise f l r)
-  unfolding pairwise
-  pairs-hold f h [] r p q i = pow-pos (depth - 1)
-  pairs-hold f h (x ∷ l) [] p q i = pow-pos (depth - 1)
-  pairs-hold f h (x ∷ l) (y ∷ r) p q zero = h x y (p 0) (q 0)
-  pairs-hold f h (x ∷ l) (y ∷ r) p q (suc i) = pairs-hold f h l r (λ j. p (suc j)) (λ j. q (suc j)) i
+  pairs-hold = each-pairwise (Holds depth) (pos 0) (pow-pos (depth - 1)) (Holds depth) (pos 0)
 
   pub mid-holds : (l r : List ℤ) → AllHold depth l → AllHold depth r → AllHold depth (pairwise mid l r)
   mid-holds = pairs-hold mid (mid-range (2 ^ (depth - 1)) top)

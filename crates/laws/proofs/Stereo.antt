@@ -6,7 +6,9 @@ use mathlib.Core.List.{List, [], _∷_, _++_}
 use native.Mathlib.Omega.{arith}
 use lib.ListN.{length, getD, take}
 use lib.Seq.{ext-getD, getD-take, length-take-le}
-use lib.IntN.{ℤ, pos}
+use lib.IntN.{ℤ, pos, _+ℤ_, _-ℤ_}
+use mir.Syntax.{w32}
+use mir.Val.{SFits}
 use Rattle.format.specs.Lists.{tab, pairwise, every}
 use Rattle.format.specs.MidSide.{left, right, leftRight}
 use Rattle.format.specs.Encoding.{channel, plain, padded, split, mid, side, midSide, equalParity, parity}
@@ -14,8 +16,9 @@ use Rattle.format.specs.declared.settings.SampleFormat.the-variants.{Pcm}
 use Rattle.laws.proofs.Tests.{never}
 use Rattle.laws.proofs.Parts.{length-tab}
 use Rattle.laws.proofs.Signs.{AllHold}
-use Rattle.laws.proofs.Wrap.{Fit}
-use Rattle.laws.proofs.Halves.{Even, Stay, length-pairwise, mid-holds, side-holds, lefts-back, rights-back, pairwise-at, pairs-stay, even-padded, mid-back, side-back}
+use Rattle.laws.proofs.Each.{Each, each-pairwise}
+use Rattle.laws.proofs.Wrap.{Fit, zero-fits, wrap-is}
+use Rattle.laws.proofs.Halves.{Even, length-pairwise, mid-holds, side-holds, lefts-back, rights-back, pairwise-at, even-padded, mid-back, side-back, Stay, pairs-stay}
 use Rattle.laws.proofs.Channels.{Level}
 
 -- mid and side are as long as the two channels
@@ -91,6 +94,13 @@ module _ (b n k : ℕ) (high : b ≤ 32) (two : n ≡ 2) (chans : List (List ℤ
 pub two-channels : (chans : List (List ℤ)) → length (leftRight Pcm chans) ≡ 2
 unfolding leftRight
 two-channels chans = refl
+
+-- of channels of 32 bits they are of 32 bits
+pub both-fit : (chans : List (List ℤ)) → Each Fit [] chans → Each Fit [] (leftRight Pcm chans)
+unfolding leftRight left right
+both-fit chans p zero i = each-pairwise (SFits w32) (pos 0) zero-fits (SFits w32) (pos 0) (left Pcm) (λ x y a b. wrap-is (x +ℤ y)) (getD chans 0 []) (getD chans 1 []) (p 0) (p 1) i
+both-fit chans p (suc zero) i = each-pairwise (SFits w32) (pos 0) zero-fits (SFits w32) (pos 0) (right Pcm) (λ x y a b. wrap-is (x -ℤ y)) (getD chans 0 []) (getD chans 1 []) (p 0) (p 1) i
+both-fit chans p (suc (suc c)) i = zero-fits
 
 -- the two channels have a frame i
 abbrev pub Reach : ℕ → List (List ℤ) → Type 0

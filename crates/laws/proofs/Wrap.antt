@@ -77,6 +77,9 @@ difference-back a b f g =
 abbrev pub Fit : List ℤ → Type 0
 Fit xs = (i : ℕ) → SFits w32 (getD xs i (pos 0))
 
+pub zero-fits : SFits w32 (pos 0)
+zero-fits = record { sfits = omega arith }
+
 pub rebuilt-back : (xs : List ℤ) → Fit xs → rebuilt (head0 xs) (differences xs) ≡ xs
 unfolding rebuilt differences head0
 rebuilt-back [] f = refl

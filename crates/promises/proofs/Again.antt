@@ -12,16 +12,18 @@ use Rattle.laws.proofs.TemplateFiles as F
 use Rattle.promises.proofs.Refile as R
 use Rattle.format.specs.Lists.{joined, over}
 use Rattle.format.specs.Header.{fieldsOf, groupsOf, entry, group}
-use Rattle.format.specs.Refusals.{refuse, inOrder}
+use Rattle.format.specs.Refusals.{refuse, _then_, inOrder}
 use Rattle.format.specs.Answers.{answered, filled}
 use Rattle.format.specs.Encoding.{groupIn, checkSamples}
 use Rattle.format.specs.Reencoding.{checkNewGroup, newGroup, checkSame, checkBounds, checkRising, checkTemplate, checkReencode, checkReencodeInto, refileOf, reencodeOf, reencodeInto}
+use Rattle.format.specs.Boundary.{samplesFrom, checkBytes, result, checkHostReencode, hostReencode, hostReencodeInto}
 use Rattle.format.specs.declared.refusals.Refusal.the-variants.{TooShort, FileSignature, TemplateOffsets, OutputTooShort}
 use Rattle.format.specs.declared.refusals.Checked.{Checked}
 use Rattle.format.specs.declared.refusals.Checked.the-variants.{Fine, No}
 use Rattle.format.specs.declared.settings.PcmSpec.{PcmSpec}
 use Rattle.format.specs.declared.answers.Fields.{Fields}
 use Rattle.format.specs.declared.answers.Outcome.the-variants.{Wrote}
+use Rattle.format.specs.declared.answers.Answer.{Answer}
 use Rattle.laws.proofs.Parts.{joined-cong}
 use Rattle.laws.proofs.Checks.{_then-same_, first-fine, order-cong, any-cong}
 use Rattle.laws.proofs.Channels.{group-length}
@@ -121,3 +123,24 @@ module _ (p : PcmSpec) (s : List ℤ) (t : List ℕ) (ok : checkReencode p s t �
         by : (c : Checked) → checkReencodeInto q z t (length lent) ≡ c → filled c (refileOf z t′) lent ≡ filled c (refileOf z t) lent
         by Fine e = ap (λ (f : List ℕ). over f lent) (same-file (first-fine _ _ e))
         by (No r) e = refl
+
+  -- ---- and so it does at the host boundary, of any bytes
+  module _ (b : List ℕ) (q : PcmSpec) (room : List ℕ) where
+    abbrev z : List ℤ
+    z = samplesFrom b
+
+    pub host-says-same : hostReencode b q t′ (length room) ≡ hostReencode b q t (length room)
+    unfolding hostReencode checkHostReencode reencodeOf _then_
+    host-says-same = by (checkBytes b)
+      where
+        by : (c : Checked) → result (answered (c then checkReencodeInto q z t′ (length room)) (Wrote (length t′)) .outcome) ≡ result (answered (c then checkReencodeInto q z t (length room)) (Wrote (length t)) .outcome)
+        by Fine = ap (λ (a : Answer). result (a .outcome)) (says-same q z (length room))
+        by (No r) = refl
+
+    pub host-leaves-same : hostReencodeInto b q t′ room ≡ hostReencodeInto b q t room
+    unfolding hostReencodeInto checkHostReencode reencodeInto _then_
+    host-leaves-same = by (checkBytes b)
+      where
+        by : (c : Checked) → filled (c then checkReencodeInto q z t′ (length room)) (refileOf z t′) room ≡ filled (c then checkReencodeInto q z t (length room)) (refileOf z t) room
+        by Fine = leaves-same q z room
+        by (No r) = refl

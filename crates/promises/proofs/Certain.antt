@@ -6,10 +6,8 @@ use mathlib.Core.List.{List, []}
 use native.Mathlib.Omega.{arith}
 use lib.ListN.{length}
 use lib.IntN.{ℤ}
-use lib.Dec.{ltb}
-use borrow.Author.Tests.{ltb-false}
 use Rattle.format.specs.Numbers.{Below}
-use Rattle.format.specs.Refusals.{refuse, _then_}
+use Rattle.format.specs.Refusals.{_then_}
 use Rattle.format.specs.Answers.{refusedBy, answered, filled}
 use Rattle.format.specs.Opening.{checkOpen, headerOf, openOf}
 use Rattle.format.specs.Decoding.{checkDecode, decodedOf, decodedCount, checkRoom, decodeOf, decodeInto}
@@ -17,7 +15,7 @@ use Rattle.format.specs.Walking.{stepSamples, stepCount, isLeft, checkWalk, ste
 use Rattle.format.specs.Encoding.{fileOf, checkEncode, checkEncodeInto, encodeOf, encodeInto}
 use Rattle.format.specs.Reencoding.{refileOf, checkReencode, checkReencodeInto, reencodeOf, reencodeInto}
 use Rattle.format.specs.Boundary.{samplesFrom, sampleBytes, modeOf, checkMode, checkBytes, result, hostDecode, hostDecodeInto, checkHostEncode, hostEncode, hostEncodeInto, checkHostReencode, hostReencode, hostReencodeInto}
-use Rattle.format.specs.Promises.{Opens, Decodes, Steps, Encodes, Reencodes, HostDecodes, HostEncodes, HostReencodes}
+use Rattle.format.specs.Promises.{Opens, Decodes, Steps, Encodes, Reencodes, HostOpens, HostDecodes, HostEncodes, HostReencodes}
 use Rattle.format.specs.declared.units.Samples.{Samples}
 use Rattle.format.specs.declared.refusals.Refusal.{Refusal}
 use Rattle.format.specs.declared.refusals.Refusal.the-variants.{OutputTooShort}
@@ -31,8 +29,8 @@ use Rattle.format.specs.declared.answers.Answer.{Answer}
 use Rattle.lent.specs.Lent.{lentOf, restOf}
 use Rattle.lent.specs.declared.Container.{Container}
 use Rattle.lent.proofs.Outcome.{one-outcome}
-use Rattle.laws.proofs.Checks.{passed, others-fine}
-use Rattle.promises.proofs.Outcomes.{Exactly, isRefused, exactly-no, no-keeps, refused-keeps, host-refused}
+use Rattle.laws.proofs.Checks.{others-fine}
+use Rattle.promises.proofs.Outcomes.{Exactly, isRefused, exactly-no, no-keeps, refused-keeps, host-refused, has-room}
 
 -- ---- each refusal has its exact condition: what the checks say, which stand in document 01's order
 
@@ -86,8 +84,10 @@ in-either P one which words bytes r r′ w w′ b b′ hb hb′ p q =
     (e .0, m .0, m .1)
 
 pub record OneOutcome : Type 1 where
-  -- a function that lends nothing, whose promise is r ≡ x
+  -- a function that lends nothing promises r ≡ x: open, check_open, ncw_open, the functions of format
   pub equation : {R : Type 0} (x r r′ : R) → r ≡ x → r′ ≡ x → r ≡ r′
+  pub opens : (s : List ℕ) (r r′ : Answer) → Opens s r → Opens s r′ → r ≡ r′
+  pub host-opens : (s : List ℕ) (r r′ : ℕ) → HostOpens s r → HostOpens s r′ → r ≡ r′
   pub decodes : (s : List ℕ) (lent : List ℤ) → One (Decodes s lent)
   pub steps : (s : List ℕ) (g : ℕ) (lent : List ℤ) → One (Steps s g lent)
   pub encodes : (p : PcmSpec) (mode : StereoMode) (s : List ℤ) (lent : List ℕ) → One (Encodes p mode s lent)
@@ -103,6 +103,8 @@ pub one-outcome-each : OneOutcome
 one-outcome-each =
     record {
       equation = λ x r r′ p q. p ∙ sym q;
+      opens = λ s r r′ p q. p ∙ sym q;
+      host-opens = λ s r r′ p q. p ∙ sym q;
       decodes = λ s lent. equations _ _;
       steps = λ s g lent. equations _ _;
       encodes = λ p mode s lent. equations _ _;
@@ -138,10 +140,6 @@ pub record RefusalsKeep : Type 0 where
   pub host-reencodes : (b : List ℕ) (p : PcmSpec) (t lent : List ℕ) → HostKeeps (HostReencodes b p t lent) lent
   pub decodes-lent : (s : List ℕ) (which : Container) (words : List ℤ) (bytes : List ℕ) → KeepsInEither (Decodes s (lentOf which words bytes)) which words bytes
   pub steps-lent : (s : List ℕ) (g : ℕ) (which : Container) (words : List ℤ) (bytes : List ℕ) → KeepsInEither (Steps s g (lentOf which words bytes)) which words bytes
-
--- what passed the check of the room has room
-has-room : (a : Checked) (room m : ℕ) (r : Refusal) → (a then refuse (ltb room m) r) ≡ Fine → m ≤ room
-has-room a room m r e = ltb-false room m (passed _ _ (others-fine a _ e))
 
 decode-keeps : (s : List ℕ) (lent : List ℤ) → Keeps (Decodes s lent) lent
 unfolding decodeOf decodeInto

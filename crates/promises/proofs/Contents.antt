@@ -1,4 +1,4 @@
--- What is written is fixed in every group and in its length.
+-- What is written is fixed in every group, in its length and in its header.
 use Prim.Native.Nat.{ℕ, _+_, _*_, _/_, _<_, min}
 use mathlib.Core.Path.{_≡_, sym, ap, _∙_}
 use mathlib.Core.List.{List, [], _++_}
@@ -7,17 +7,20 @@ use lib.ListN.{length, take, drop}
 use lib.IntN.{ℤ}
 use Rattle.format.specs.Lists.{joined, from, over}
 use Rattle.format.specs.Header.{fieldsOf, groupsOf, group}
-use Rattle.format.specs.Answers.{filled, read, wrote}
-use Rattle.format.specs.Opening.{checkOpen, formatOf}
+use Rattle.format.specs.Answers.{answeredBy, filled, read, wrote}
+use Rattle.format.specs.Opening.{checkOpen, formatOf, openOf}
 use Rattle.format.specs.Decoding.{checkGroup, active, checkDecode, decodedOf, decodeInto}
 use Rattle.format.specs.Walking.{stepSamples}
 use Rattle.format.specs.Encoding.{groupIn, groupAt, fileOf}
 use Rattle.format.specs.Reencoding.{newGroup}
-use Rattle.format.specs.Promises.{Decodes, Encodes, Reencodes}
+use Rattle.format.specs.Promises.{Opens, Decodes, Encodes, Reencodes}
 use Rattle.format.specs.declared.refusals.Checked.{Checked}
 use Rattle.format.specs.declared.settings.PcmSpec.{PcmSpec}
 use Rattle.format.specs.declared.settings.StereoMode.{StereoMode}
+use Rattle.format.specs.declared.settings.SampleFormat.the-variants.{Pcm}
 use Rattle.format.specs.declared.answers.Fields.{Fields}
+use Rattle.format.specs.declared.answers.Outcome.the-variants.{Opened}
+use Rattle.format.specs.declared.answers.Answer.{Answer}
 use Rattle.laws.proofs.Parts.{part-at}
 use Rattle.laws.proofs.Checks.{first-fine, others-fine, order-fine}
 use Rattle.laws.proofs.Opened.{opened-fields, some-channels}
@@ -25,6 +28,8 @@ use Rattle.laws.proofs.Lengths.{group-writes, active-sum}
 use Rattle.laws.proofs.Channels.{group-starts}
 use Rattle.laws.proofs.Written.{sum, offsetOf, blocksIn, codedAt, file-size}
 use Rattle.promises.proofs.Outcomes.{read-passed, read-fine, read-count}
+use Rattle.promises.proofs.Laid.{headerFor}
+use Rattle.promises.proofs.FileLaws.{fieldsFor}
 use Rattle.promises.proofs.RoundTrip as RoundTrip
 use Rattle.promises.proofs.Refile as Refile
 use Rattle.promises.proofs.WalkLaws.{steps-joined}
@@ -108,4 +113,21 @@ lengths-are =
       decoded = read-count;
       encoded = λ p mode s lent file n e. file-long p mode s lent file n e ∙ file-size p mode s;
       reencoded = as-long;
+    }
+
+-- ---- the header
+pub record HeadersAre : Type 0 where
+  -- the file opens with the call's settings and the samples' frames, as PCM
+  pub encoded : (p : PcmSpec) (mode : StereoMode) (s : List ℤ) (lent file : List ℕ) (n : ℕ) → Rate32 p → Encodes p mode s lent (wrote n) file
+      → let frames = length s / p .channels in (r : Answer) → Opens (take n file) r
+      → r ≡ answeredBy (Opened (headerFor (fieldsFor p frames (offsetOf frames) (length (joined (groupAt p mode s) (groupsOf frames)))) Pcm))
+  -- the new file opens as the template does
+  pub reencoded : (p : PcmSpec) (s : List ℤ) (t lent file : List ℕ) (n : ℕ) → Reencodes p s t lent (wrote n) file
+      → (r r′ : Answer) → Opens (take n file) r → Opens t r′ → r ≡ r′
+
+pub headers-are : HeadersAre
+headers-are =
+    record {
+      encoded = λ p mode s lent file n rate e r o. o ∙ ap openOf (file-written p mode s lent file n e) ∙ RoundTrip.opens p mode s (encode-ok p mode s lent file n e) rate;
+      reencoded = λ p s t lent file n e r r′ o o′. o ∙ ap openOf (new-file p s t lent file n e) ∙ Refile.opens-same p s t (reencode-ok p s t lent file n e) ∙ sym o′;
     }

@@ -31,7 +31,7 @@ use Rattle.promises.proofs.RoundTrip as RoundTrip
 use Rattle.promises.proofs.MidSums.{NoneLeaves}
 use Rattle.promises.proofs.Refile as Refile
 use Rattle.promises.proofs.Again.{says-same, leaves-same}
-use Rattle.promises.proofs.Files.{encode-ok, file-written, reencode-ok, as-long, new-file, new-lies}
+use Rattle.promises.proofs.Files.{encode-ok, file-written, reencode-ok, new-file, template-written}
 use Rattle.promises.proofs.ParityLaws.{Some, oddFrame, parity-so, so-parity}
 
 -- a rate is a number of 32 bits, as its type says
@@ -99,10 +99,7 @@ pub law-three : (p : PcmSpec) (t lent file : List ℕ) (n : ℕ) (out own : List
     → Reencodes p (take m own) t lent (wrote n) file
     → NoneLeaves t
     → (n ≡ length t) × (file ≡ over t lent)
-law-three p t lent file n out own m byte d e none =
-    let s = take m own in
-    let kept : refileOf s t ≡ t = Refile.template-kept p s t (reencode-ok p s t lent file n e) byte (samples-read t out own m d) none in
-    (as-long p s t lent file n e, new-lies p s t lent file n e ∙ ap (λ (f : List ℕ). over f lent) kept)
+law-three p t lent file n out own m byte d e none = template-written p (take m own) t lent file n e byte (samples-read t out own m d) none
 
 -- the premise is exact: where t comes back, no sum leaves 32 bits
 pub law-three-only : (p : PcmSpec) (s : List ℤ) (t lent file : List ℕ) (n : ℕ)

@@ -5,6 +5,7 @@ use mathlib.Core.List.{List}
 use lib.ListN.{length, take}
 use lib.IntN.{ℤ}
 use Rattle.format.specs.Lists.{over}
+use Rattle.format.specs.Numbers.{Below}
 use Rattle.format.specs.Answers.{filled, wrote}
 use Rattle.format.specs.Decoding.{decodedOf}
 use Rattle.format.specs.Encoding.{fileOf, checkEncode, checkEncodeInto, encodeOf, encodeInto}
@@ -18,6 +19,7 @@ use Rattle.laws.proofs.Checks.{first-fine}
 use Rattle.laws.proofs.TemplateFiles.{same-length}
 use Rattle.promises.proofs.Outcomes.{written-front, wrote-fine, wrote-length}
 use Rattle.promises.proofs.RoundTrip as RoundTrip
+use Rattle.promises.proofs.MidSums.{NoneLeaves}
 use Rattle.promises.proofs.Refile as Refile
 
 -- ---- encoding wrote n bytes
@@ -60,9 +62,13 @@ module _ (p : PcmSpec) (s : List ℤ) (t lent file : List ℕ) (n : ℕ) (e : Re
   unfolding reencodeInto
   new-file = written-front (checkReencodeInto p s t (length lent)) n (refileOf s t) lent file into-ok (as-long ∙ sym (same-length p s t reencode-ok)) (e .1)
 
-  pub new-lies : file ≡ over (refileOf s t) lent
+  new-lies : file ≡ over (refileOf s t) lent
   unfolding reencodeInto
   new-lies = e .1 ∙ ap (λ (c : Checked). filled c (refileOf s t) lent) into-ok
+
+  -- with what the template decodes to, that is the template
+  pub template-written : Below 256 t → s ≡ decodedOf t → NoneLeaves t → (n ≡ length t) × (file ≡ over t lent)
+  template-written byte own none = (as-long, new-lies ∙ ap (λ (f : List ℕ). over f lent) (Refile.template-kept p s t reencode-ok byte own none))
 
   pub new-tells : decodedOf (take n file) ≡ s
   new-tells = ap decodedOf new-file ∙ Refile.gives-back p s t reencode-ok

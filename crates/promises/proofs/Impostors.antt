@@ -1,13 +1,15 @@
 -- 9. THE IMPOSTORS of document 01: no program with their behaviour meets what is promised.
-use Prim.Native.Nat.{ℕ, _+_, _*_}
+use Prim.Native.Nat.{ℕ, _+_, _*_, _^_, _<_}
 use mathlib.Core.Path.{_≡_, refl, sym, ap, _∙_}
-use mathlib.Core.Bool.{false}
+use mathlib.Core.Bool.{Bool, true, false, _&&_}
 use mathlib.Core.List.{List, [], _∷_}
 use native.Mathlib.Omega.{arith}
 use lib.ListN.{length, getD, take, drop, replicate}
 use lib.IntN.{ℤ, pos, natAbs}
-use lib.Dec.{eqb}
-use borrow.Author.Tests.{eq-eqb}
+use lib.Dec.{ltb, eqb}
+use borrow.Author.Tests.{ltb-true, eq-eqb}
+use Rattle.format.specs.Lists.{every}
+use Rattle.format.specs.Numbers.{Below, holds}
 use Rattle.format.specs.Header.{fieldsOf, entry}
 use Rattle.format.specs.Answers.{answeredBy, refusedBy, read, wrote}
 use Rattle.format.specs.Decoding.{decodeOf, decodeInto, decodedOf}
@@ -22,61 +24,88 @@ use Rattle.format.specs.declared.answers.Outcome.{Outcome}
 use Rattle.format.specs.declared.answers.Outcome.the-variants.{Read, Wrote}
 use Rattle.format.specs.declared.answers.Answer.{Answer}
 use Rattle.format.proofs.Made.{document-01, pcm, five}
-use Rattle.laws.proofs.Tests.{never}
+use Rattle.laws.proofs.Tests.{never, and-left, and-right}
+use Rattle.laws.proofs.Marks.{digits-by}
+use Rattle.laws.proofs.Signs.{every-holds}
+use Rattle.laws.proofs.Wrap.{Fit}
+use Rattle.promises.proofs.BlockLaws.{fit}
 use Rattle.promises.proofs.Outcomes.{isRefused}
 use Rattle.promises.proofs.Files.{file-tells, new-tells}
 
--- a program: what it answers and what it leaves in what is lent, for every input; and that it meets its promise
+-- ---- what can be given: bytes are bytes, samples are of 32 bits, settings of their types, and no slice has 2 ^ 63 bytes
+abbrev pub Bytes : List ℕ → Type 0
+Bytes s = Below 256 s × (length s < 2 ^ 63)
+
+abbrev pub Words : List ℤ → Type 0
+Words s = Fit s × (4 * length s < 2 ^ 63)
+
+abbrev pub Settings : PcmSpec → Type 0
+Settings p = (p .channels < 2 ^ 16) × (p .«bits_per_sample» < 2 ^ 16) × (p .«sample_rate» < 2 ^ 32)
+
+-- Q of each call
+abbrev pub EachDecoding : (List ℕ → List ℤ → Type 0) → Type 0
+EachDecoding Q = (s : List ℕ) (lent : List ℤ) → Bytes s → Words lent → Q s lent
+
+abbrev pub EachEncoding : (PcmSpec → StereoMode → List ℤ → List ℕ → Type 0) → Type 0
+EachEncoding Q = (p : PcmSpec) (mode : StereoMode) (s : List ℤ) (lent : List ℕ) → Settings p → Words s → Bytes lent → Q p mode s lent
+
+abbrev pub EachReencoding : (PcmSpec → List ℤ → List ℕ → List ℕ → Type 0) → Type 0
+EachReencoding Q = (p : PcmSpec) (s : List ℤ) (t lent : List ℕ) → Settings p → Words s → Bytes t → Bytes lent → Q p s t lent
+
+-- ---- a program: what it answers and what it leaves in what is lent; it meets its promise in each call
 pub record Decoder : Type 0 where
   pub says : List ℕ → List ℤ → Answer
   pub leaves : List ℕ → List ℤ → List ℤ
-  pub meets : (s : List ℕ) (lent : List ℤ) → Decodes s lent (says s lent) (leaves s lent)
+  pub meets : EachDecoding (λ s lent. Decodes s lent (says s lent) (leaves s lent))
 
 pub record Encoder : Type 0 where
   pub says : PcmSpec → StereoMode → List ℤ → List ℕ → Answer
   pub leaves : PcmSpec → StereoMode → List ℤ → List ℕ → List ℕ
-  pub meets : (p : PcmSpec) (mode : StereoMode) (s : List ℤ) (lent : List ℕ) → Encodes p mode s lent (says p mode s lent) (leaves p mode s lent)
+  pub meets : EachEncoding (λ p mode s lent. Encodes p mode s lent (says p mode s lent) (leaves p mode s lent))
 
 pub record Reencoder : Type 0 where
   pub says : PcmSpec → List ℤ → List ℕ → List ℕ → Answer
   pub leaves : PcmSpec → List ℤ → List ℕ → List ℕ → List ℕ
-  pub meets : (p : PcmSpec) (s : List ℤ) (t lent : List ℕ) → Reencodes p s t lent (says p s t lent) (leaves p s t lent)
+  pub meets : EachReencoding (λ p s t lent. Reencodes p s t lent (says p s t lent) (leaves p s t lent))
 
 abbrev pub Refuses : Answer → Type 0
 Refuses r = (x : Refusal) × (r ≡ refusedBy x)
 
--- where the first group ends: of the samples, of the file that is encoded, of the template
+-- where the first group ends, in the samples of the file s and in the file t itself
 abbrev pub firstSamples : List ℕ → ℕ
 firstSamples s = 512 * fieldsOf s .channels
 
-abbrev pub firstWritten : List ℕ → ℕ
-firstWritten t = fieldsOf t .start + entry t (fieldsOf t) 1
+abbrev pub firstBytes : List ℕ → ℕ
+firstBytes t = fieldsOf t .start + entry t (fieldsOf t) 1
 
+-- ---- none of them does what the impostors do
 pub record Fall : Type 0 where
   -- refuses everything
-  pub refusing-decoder : (d : Decoder) → ((s : List ℕ) (lent : List ℤ) → Refuses (d .says s lent)) → ⊥
-  pub refusing-encoder : (e : Encoder) → ((p : PcmSpec) (mode : StereoMode) (s : List ℤ) (lent : List ℕ) → Refuses (e .says p mode s lent)) → ⊥
-  pub refusing-reencoder : (e : Reencoder) → ((p : PcmSpec) (s : List ℤ) (t lent : List ℕ) → Refuses (e .says p s t lent)) → ⊥
-  -- writes a file fixed by the settings and the number of samples
+  pub refusing-decoder : (d : Decoder) → EachDecoding (λ s lent. Refuses (d .says s lent)) → ⊥
+  pub refusing-encoder : (e : Encoder) → EachEncoding (λ p mode s lent. Refuses (e .says p mode s lent)) → ⊥
+  pub refusing-reencoder : (e : Reencoder) → EachReencoding (λ p s t lent. Refuses (e .says p s t lent)) → ⊥
+  -- writes a file that the settings and the number of samples fix
   pub fixed-encoder : (e : Encoder) (fixed : PcmSpec → StereoMode → ℕ → List ℕ)
-      → ((p : PcmSpec) (mode : StereoMode) (s : List ℤ) (lent : List ℕ) (n : ℕ) → e .says p mode s lent ≡ wrote n → take n (e .leaves p mode s lent) ≡ fixed p mode (length s)) → ⊥
-  -- or by the template too, as by giving it back
+      → EachEncoding (λ p mode s lent. (n : ℕ) → e .says p mode s lent ≡ wrote n → take n (e .leaves p mode s lent) ≡ fixed p mode (length s)) → ⊥
+  -- or they and the template, as by giving it back
   pub fixed-reencoder : (e : Reencoder) (fixed : PcmSpec → ℕ → List ℕ → List ℕ)
-      → ((p : PcmSpec) (s : List ℤ) (t lent : List ℕ) (n : ℕ) → e .says p s t lent ≡ wrote n → take n (e .leaves p s t lent) ≡ fixed p (length s) t) → ⊥
+      → EachReencoding (λ p s t lent. (n : ℕ) → e .says p s t lent ≡ wrote n → take n (e .leaves p s t lent) ≡ fixed p (length s) t) → ⊥
   -- leaves the buffer untouched
-  pub idle-decoder : (d : Decoder) → ((s : List ℕ) (lent : List ℤ) → d .leaves s lent ≡ lent) → ⊥
-  pub idle-encoder : (e : Encoder) → ((p : PcmSpec) (mode : StereoMode) (s : List ℤ) (lent : List ℕ) → e .leaves p mode s lent ≡ lent) → ⊥
-  pub idle-reencoder : (e : Reencoder) → ((p : PcmSpec) (s : List ℤ) (t lent : List ℕ) → e .leaves p s t lent ≡ lent) → ⊥
+  pub idle-decoder : (d : Decoder) → EachDecoding (λ s lent. d .leaves s lent ≡ lent) → ⊥
+  pub idle-encoder : (e : Encoder) → EachEncoding (λ p mode s lent. e .leaves p mode s lent ≡ lent) → ⊥
+  pub idle-reencoder : (e : Reencoder) → EachReencoding (λ p s t lent. e .leaves p s t lent ≡ lent) → ⊥
   -- treats only the first group, and leaves what lies after it
-  pub first-decoder : (d : Decoder) → ((s : List ℕ) (lent : List ℤ) → drop (firstSamples s) (d .leaves s lent) ≡ drop (firstSamples s) lent) → ⊥
-  pub first-encoder : (e : Encoder)
-      → ((p : PcmSpec) (mode : StereoMode) (s : List ℤ) (lent : List ℕ) → drop (firstWritten (fileOf p mode s)) (e .leaves p mode s lent) ≡ drop (firstWritten (fileOf p mode s)) lent) → ⊥
-  pub first-reencoder : (e : Reencoder) → ((p : PcmSpec) (s : List ℤ) (t lent : List ℕ) → drop (firstWritten t) (e .leaves p s t lent) ≡ drop (firstWritten t) lent) → ⊥
+  pub first-decoder : (d : Decoder) → EachDecoding (λ s lent. drop (firstSamples s) (d .leaves s lent) ≡ drop (firstSamples s) lent) → ⊥
+  pub first-encoder : (e : Encoder) → EachEncoding (λ p mode s lent. let end = firstBytes (fileOf p mode s) in drop end (e .leaves p mode s lent) ≡ drop end lent) → ⊥
+  pub first-reencoder : (e : Reencoder) → EachReencoding (λ p s t lent. drop (firstBytes t) (e .leaves p s t lent) ≡ drop (firstBytes t) lent) → ⊥
 
 -- ---- some calls, computed
 
 abbrev mono : PcmSpec
 mono = pcm 1 16
+
+abbrev one : ℕ → List ℤ
+one x = pos x ∷ []
 
 -- 513 frames, so two groups
 abbrev many : ℕ → List ℤ
@@ -88,25 +117,59 @@ two-groups = fileOf mono Auto (many 1)
 abbrev room : List ℕ
 room = replicate 420 0
 
+-- bytes and samples, by a test
+abbrev areBytes : List ℕ → Bool
+areBytes s = every (λ x. ltb x 256) s && ltb (length s) (2 ^ 63)
+
+abbrev areWords : List ℤ → Bool
+areWords s = every (holds 32) s && ltb (4 * length s) (2 ^ 63)
+
+by-bytes : (s : List ℕ) → areBytes s ≡ true → Bytes s
+by-bytes s e = (digits-by 256 (omega arith) s (and-left _ _ e), ltb-true (length s) (2 ^ 63) (and-right (every (λ x. ltb x 256) s) _ e))
+
+by-words : (s : List ℤ) → areWords s ≡ true → Words s
+by-words s e = (fit 32 (omega arith) s (every-holds 32 s (and-left _ _ e)), ltb-true (4 * length s) (2 ^ 63) (and-right (every (holds 32) s) _ e))
+
+of-types : Settings mono
+of-types = (omega arith, omega arith, omega arith)
+
 record Computed : Type 0 where
+  bytes-five : areBytes five ≡ true
+  bytes-two : areBytes two-groups ≡ true
+  bytes-room : areBytes room ≡ true
+  words-5 : areWords (one 5) ≡ true
+  words-6 : areWords (one 6) ≡ true
+  words-7 : areWords (one 7) ≡ true
+  many-0 : areWords (many 0) ≡ true
+  many-1 : areWords (many 1) ≡ true
+  many-2 : areWords (many 2) ≡ true
   reads : decodeOf five 1 ≡ read 1
-  samples : decodeInto five (pos 7 ∷ []) ≡ pos 5 ∷ []
-  writes : encodeOf mono Auto (pos 5 ∷ []) 420 ≡ wrote 272
-  writes-other : encodeOf mono Auto (pos 6 ∷ []) 420 ≡ wrote 272
-  rewrites : reencodeOf mono (pos 5 ∷ []) five 420 ≡ wrote 272
-  rewrites-other : reencodeOf mono (pos 6 ∷ []) five 420 ≡ wrote 272
-  begins : getD (encodeInto mono Auto (pos 5 ∷ []) room) 0 9 ≡ 1
-  rebegins : getD (reencodeInto mono (pos 5 ∷ []) five room) 0 9 ≡ 1
+  samples : decodeInto five (one 7) ≡ one 5
+  writes : encodeOf mono Auto (one 5) 420 ≡ wrote 272
+  writes-other : encodeOf mono Auto (one 6) 420 ≡ wrote 272
+  rewrites : reencodeOf mono (one 5) five 420 ≡ wrote 272
+  rewrites-other : reencodeOf mono (one 6) five 420 ≡ wrote 272
+  begins : getD (encodeInto mono Auto (one 5) room) 0 9 ≡ 1
+  rebegins : getD (reencodeInto mono (one 5) five room) 0 9 ≡ 1
   last-sample : getD (drop (firstSamples two-groups) (decodeInto two-groups (many 0))) 0 (pos 9) ≡ pos 1
   last-lent : getD (drop (firstSamples two-groups) (many 0)) 0 (pos 9) ≡ pos 0
-  second-mark : getD (drop (firstWritten two-groups) (encodeInto mono Auto (many 1) room)) 0 9 ≡ 0x16
-  second-again : getD (drop (firstWritten two-groups) (reencodeInto mono (many 2) two-groups room)) 0 9 ≡ 0x16
-  second-lent : getD (drop (firstWritten two-groups) room) 0 9 ≡ 0
+  second-mark : getD (drop (firstBytes two-groups) (encodeInto mono Auto (many 1) room)) 0 9 ≡ 0x16
+  second-again : getD (drop (firstBytes two-groups) (reencodeInto mono (many 2) two-groups room)) 0 9 ≡ 0x16
+  second-lent : getD (drop (firstBytes two-groups) room) 0 9 ≡ 0
 
 computed : Computed
 unfolding document-01
 computed =
     record {
+      bytes-five = refl;
+      bytes-two = refl;
+      bytes-room = refl;
+      words-5 = refl;
+      words-6 = refl;
+      words-7 = refl;
+      many-0 = refl;
+      many-1 = refl;
+      many-2 = refl;
       reads = refl;
       samples = refl;
       writes = refl;
@@ -129,45 +192,125 @@ succeeds r o success e x = never (sym (ap (λ (a : Answer). isRefused (a .outcom
 differ : (m n : ℕ) → eqb m n ≡ false → m ≡ n → ⊥
 differ m n d e = never (sym (eq-eqb m n e) ∙ d)
 
-five-six : _≡_ {A = List ℤ} (pos 5 ∷ []) (pos 6 ∷ []) → ⊥
+five-six : _≡_ {A = List ℤ} (one 5) (one 6) → ⊥
 five-six e = differ 5 6 refl (ap (λ (l : List ℤ). natAbs (getD l 0 (pos 0))) e)
+
+-- they can be given
+bytes-of-five : Bytes five
+bytes-of-five = by-bytes five (computed .bytes-five)
+
+bytes-of-two : Bytes two-groups
+bytes-of-two = by-bytes two-groups (computed .bytes-two)
+
+bytes-of-room : Bytes room
+bytes-of-room = by-bytes room (computed .bytes-room)
+
+words-5 : Words (one 5)
+words-5 = by-words (one 5) (computed .words-5)
+
+words-6 : Words (one 6)
+words-6 = by-words (one 6) (computed .words-6)
+
+words-7 : Words (one 7)
+words-7 = by-words (one 7) (computed .words-7)
+
+many-0 : Words (many 0)
+many-0 = by-words (many 0) (computed .many-0)
+
+many-1 : Words (many 1)
+many-1 = by-words (many 1) (computed .many-1)
+
+many-2 : Words (many 2)
+many-2 = by-words (many 2) (computed .many-2)
+
+-- ---- a decoder: reading the sample 5 where 7 lies, and two groups of 1 where 0 lies
+module _ (d : Decoder) where
+  abbrev read-five : Decodes five (one 7) (d .says five (one 7)) (d .leaves five (one 7))
+  read-five = d .meets five (one 7) bytes-of-five words-7
+
+  not-refusing : EachDecoding (λ s lent. Refuses (d .says s lent)) → ⊥
+  not-refusing h = succeeds _ (Read (record { 0 = 1 })) refl (read-five .0 ∙ computed .reads) (h five (one 7) bytes-of-five words-7)
+
+  not-idle : EachDecoding (λ s lent. d .leaves s lent ≡ lent) → ⊥
+  not-idle h = differ 5 7 refl (ap (λ (l : List ℤ). natAbs (getD l 0 (pos 0))) (sym (read-five .1 ∙ computed .samples) ∙ h five (one 7) bytes-of-five words-7))
+
+  not-first : EachDecoding (λ s lent. drop (firstSamples s) (d .leaves s lent) ≡ drop (firstSamples s) lent) → ⊥
+  not-first h =
+      differ 1 0 refl
+      (ap natAbs
+      (sym (computed .last-sample) ∙ ap (λ (l : List ℤ). getD (drop (firstSamples two-groups) l) 0 (pos 9)) (sym (d .meets two-groups (many 0) bytes-of-two many-0 .1))
+      ∙ ap (λ (l : List ℤ). getD l 0 (pos 9)) (h two-groups (many 0) bytes-of-two many-0) ∙ computed .last-lent))
+
+-- ---- an encoder: writing the sample 5, the sample 6, and two groups, where 0 lies
+module _ (e : Encoder) where
+  written : (s : List ℤ) → Words s → Encodes mono Auto s room (e .says mono Auto s room) (e .leaves mono Auto s room)
+  written s w = e .meets mono Auto s room of-types w bytes-of-room
+
+  encoder-not-refusing : EachEncoding (λ p mode s lent. Refuses (e .says p mode s lent)) → ⊥
+  encoder-not-refusing h = succeeds _ (Wrote 272) refl (written (one 5) words-5 .0 ∙ computed .writes) (h mono Auto (one 5) room of-types words-5 bytes-of-room)
+
+  -- each file decodes to its own samples
+  encoder-not-fixed : (fixed : PcmSpec → StereoMode → ℕ → List ℕ)
+      → EachEncoding (λ p mode s lent. (n : ℕ) → e .says p mode s lent ≡ wrote n → take n (e .leaves p mode s lent) ≡ fixed p mode (length s)) → ⊥
+  encoder-not-fixed fixed h =
+      five-six
+      (sym (file-tells mono Auto (one 5) room _ 272 (sym (computed .writes), written (one 5) words-5 .1) (omega arith))
+      ∙ ap decodedOf
+      (h mono Auto (one 5) room of-types words-5 bytes-of-room 272 (written (one 5) words-5 .0 ∙ computed .writes)
+      ∙ sym (h mono Auto (one 6) room of-types words-6 bytes-of-room 272 (written (one 6) words-6 .0 ∙ computed .writes-other)))
+      ∙ file-tells mono Auto (one 6) room _ 272 (sym (computed .writes-other), written (one 6) words-6 .1) (omega arith))
+
+  encoder-not-idle : EachEncoding (λ p mode s lent. e .leaves p mode s lent ≡ lent) → ⊥
+  encoder-not-idle h =
+      differ 1 0 refl (sym (computed .begins) ∙ ap (λ (l : List ℕ). getD l 0 9) (sym (written (one 5) words-5 .1) ∙ h mono Auto (one 5) room of-types words-5 bytes-of-room))
+
+  encoder-not-first : EachEncoding (λ p mode s lent. let end = firstBytes (fileOf p mode s) in drop end (e .leaves p mode s lent) ≡ drop end lent) → ⊥
+  encoder-not-first h =
+      differ 0x16 0 refl
+      (sym (computed .second-mark) ∙ ap (λ (l : List ℕ). getD (drop (firstBytes two-groups) l) 0 9) (sym (written (many 1) many-1 .1))
+      ∙ ap (λ (l : List ℕ). getD l 0 9) (h mono Auto (many 1) room of-types many-1 bytes-of-room) ∙ computed .second-lent)
+
+-- ---- a re-encoder: the same with templates
+module _ (e : Reencoder) where
+  rewritten : (s : List ℤ) (t : List ℕ) → Words s → Bytes t → Reencodes mono s t room (e .says mono s t room) (e .leaves mono s t room)
+  rewritten s t w b = e .meets mono s t room of-types w b bytes-of-room
+
+  reencoder-not-refusing : EachReencoding (λ p s t lent. Refuses (e .says p s t lent)) → ⊥
+  reencoder-not-refusing h = succeeds _ (Wrote 272) refl (rewritten (one 5) five words-5 bytes-of-five .0 ∙ computed .rewrites) (h mono (one 5) five room of-types words-5 bytes-of-five bytes-of-room)
+
+  reencoder-not-fixed : (fixed : PcmSpec → ℕ → List ℕ → List ℕ)
+      → EachReencoding (λ p s t lent. (n : ℕ) → e .says p s t lent ≡ wrote n → take n (e .leaves p s t lent) ≡ fixed p (length s) t) → ⊥
+  reencoder-not-fixed fixed h =
+      five-six
+      (sym (new-tells mono (one 5) five room _ 272 (sym (computed .rewrites), rewritten (one 5) five words-5 bytes-of-five .1))
+      ∙ ap decodedOf
+      (h mono (one 5) five room of-types words-5 bytes-of-five bytes-of-room 272 (rewritten (one 5) five words-5 bytes-of-five .0 ∙ computed .rewrites)
+      ∙ sym (h mono (one 6) five room of-types words-6 bytes-of-five bytes-of-room 272 (rewritten (one 6) five words-6 bytes-of-five .0 ∙ computed .rewrites-other)))
+      ∙ new-tells mono (one 6) five room _ 272 (sym (computed .rewrites-other), rewritten (one 6) five words-6 bytes-of-five .1))
+
+  reencoder-not-idle : EachReencoding (λ p s t lent. e .leaves p s t lent ≡ lent) → ⊥
+  reencoder-not-idle h =
+      differ 1 0 refl
+      (sym (computed .rebegins) ∙ ap (λ (l : List ℕ). getD l 0 9) (sym (rewritten (one 5) five words-5 bytes-of-five .1) ∙ h mono (one 5) five room of-types words-5 bytes-of-five bytes-of-room))
+
+  reencoder-not-first : EachReencoding (λ p s t lent. drop (firstBytes t) (e .leaves p s t lent) ≡ drop (firstBytes t) lent) → ⊥
+  reencoder-not-first h =
+      differ 0x16 0 refl
+      (sym (computed .second-again) ∙ ap (λ (l : List ℕ). getD (drop (firstBytes two-groups) l) 0 9) (sym (rewritten (many 2) two-groups many-2 bytes-of-two .1))
+      ∙ ap (λ (l : List ℕ). getD l 0 9) (h mono (many 2) two-groups room of-types many-2 bytes-of-two bytes-of-room) ∙ computed .second-lent)
 
 pub impostors-fall : Fall
 impostors-fall =
     record {
-      refusing-decoder = λ d h. succeeds _ (Read (record { 0 = 1 })) refl (d .meets five (pos 7 ∷ []) .0 ∙ computed .reads) (h five (pos 7 ∷ []));
-      refusing-encoder = λ e h. succeeds _ (Wrote 272) refl (e .meets mono Auto (pos 5 ∷ []) room .0 ∙ computed .writes) (h mono Auto (pos 5 ∷ []) room);
-      refusing-reencoder = λ e h. succeeds _ (Wrote 272) refl (e .meets mono (pos 5 ∷ []) five room .0 ∙ computed .rewrites) (h mono (pos 5 ∷ []) five room);
-      fixed-encoder = λ e fixed h.
-          let a = e .meets mono Auto (pos 5 ∷ []) room in
-          let b = e .meets mono Auto (pos 6 ∷ []) room in
-          five-six
-          (sym (file-tells mono Auto (pos 5 ∷ []) room _ 272 (sym (computed .writes), a .1) (omega arith))
-          ∙ ap decodedOf (h mono Auto (pos 5 ∷ []) room 272 (a .0 ∙ computed .writes) ∙ sym (h mono Auto (pos 6 ∷ []) room 272 (b .0 ∙ computed .writes-other)))
-          ∙ file-tells mono Auto (pos 6 ∷ []) room _ 272 (sym (computed .writes-other), b .1) (omega arith));
-      fixed-reencoder = λ e fixed h.
-          let a = e .meets mono (pos 5 ∷ []) five room in
-          let b = e .meets mono (pos 6 ∷ []) five room in
-          five-six
-          (sym (new-tells mono (pos 5 ∷ []) five room _ 272 (sym (computed .rewrites), a .1))
-          ∙ ap decodedOf (h mono (pos 5 ∷ []) five room 272 (a .0 ∙ computed .rewrites) ∙ sym (h mono (pos 6 ∷ []) five room 272 (b .0 ∙ computed .rewrites-other)))
-          ∙ new-tells mono (pos 6 ∷ []) five room _ 272 (sym (computed .rewrites-other), b .1));
-      idle-decoder = λ d h. differ 5 7 refl (ap (λ (l : List ℤ). natAbs (getD l 0 (pos 0))) (sym (d .meets five (pos 7 ∷ []) .1 ∙ computed .samples) ∙ h five (pos 7 ∷ [])));
-      idle-encoder = λ e h.
-          differ 1 0 refl (sym (computed .begins) ∙ ap (λ (l : List ℕ). getD l 0 9) (sym (e .meets mono Auto (pos 5 ∷ []) room .1) ∙ h mono Auto (pos 5 ∷ []) room));
-      idle-reencoder = λ e h.
-          differ 1 0 refl (sym (computed .rebegins) ∙ ap (λ (l : List ℕ). getD l 0 9) (sym (e .meets mono (pos 5 ∷ []) five room .1) ∙ h mono (pos 5 ∷ []) five room));
-      first-decoder = λ d h.
-          differ 1 0 refl
-          (ap natAbs
-          (sym (computed .last-sample) ∙ ap (λ (l : List ℤ). getD (drop (firstSamples two-groups) l) 0 (pos 9)) (sym (d .meets two-groups (many 0) .1))
-          ∙ ap (λ (l : List ℤ). getD l 0 (pos 9)) (h two-groups (many 0)) ∙ computed .last-lent));
-      first-encoder = λ e h.
-          differ 0x16 0 refl
-          (sym (computed .second-mark) ∙ ap (λ (l : List ℕ). getD (drop (firstWritten two-groups) l) 0 9) (sym (e .meets mono Auto (many 1) room .1))
-          ∙ ap (λ (l : List ℕ). getD l 0 9) (h mono Auto (many 1) room) ∙ computed .second-lent);
-      first-reencoder = λ e h.
-          differ 0x16 0 refl
-          (sym (computed .second-again) ∙ ap (λ (l : List ℕ). getD (drop (firstWritten two-groups) l) 0 9) (sym (e .meets mono (many 2) two-groups room .1))
-          ∙ ap (λ (l : List ℕ). getD l 0 9) (h mono (many 2) two-groups room) ∙ computed .second-lent);
+      refusing-decoder = not-refusing;
+      refusing-encoder = encoder-not-refusing;
+      refusing-reencoder = reencoder-not-refusing;
+      fixed-encoder = encoder-not-fixed;
+      fixed-reencoder = reencoder-not-fixed;
+      idle-decoder = not-idle;
+      idle-encoder = encoder-not-idle;
+      idle-reencoder = reencoder-not-idle;
+      first-decoder = not-first;
+      first-encoder = encoder-not-first;
+      first-reencoder = reencoder-not-first;
     }

@@ -11,14 +11,18 @@ use lib.IntN.{ℤ}
 use Rattle.format.specs.Lists.{joined, from}
 use Rattle.format.specs.Header.{isSignature, fieldsOf, groupsOf, entry, group}
 use Rattle.format.specs.Blocks.{isBlock, floatBit}
-use Rattle.format.specs.Units.{isDepth}
+use Rattle.format.specs.Units.{isDepth, depthOf}
 use Rattle.format.specs.Refusals.{inOrder}
-use Rattle.format.specs.Opening.{badEntry, checkFields, checkOffsets, checkTable, checkFirst, formatOf, checkOpen}
+use Rattle.format.specs.Answers.{answeredBy, answered}
+use Rattle.format.specs.Opening.{badEntry, checkFields, checkOffsets, checkTable, checkFirst, formatOf, checkOpen, headerOf, openOf}
 use Rattle.format.specs.Decoding.{checkGroup, groupSamples, checkDecode, decodedOf}
+use Rattle.format.specs.declared.refusals.Checked.{Checked}
 use Rattle.format.specs.declared.refusals.Checked.the-variants.{Fine}
 use Rattle.format.specs.declared.settings.SampleFormat.the-variants.{Pcm, Float}
 use Rattle.format.specs.declared.settings.SampleFormat.{SampleFormat}
 use Rattle.format.specs.declared.answers.Fields.{Fields}
+use Rattle.format.specs.declared.answers.Header.{Header}
+use Rattle.format.specs.declared.answers.Outcome.the-variants.{Opened}
 use Rattle.laws.proofs.Tests.{and-no}
 use Rattle.laws.proofs.Parts.{around, part-at, length-mono, joined-cong, one-more}
 use Rattle.laws.proofs.Checks.{in-order, pass, _and-then_, none-below}
@@ -35,6 +39,21 @@ pub record Layout (s : List ℕ) (h : Fields) (part : ℕ → List ℕ) : Type 0
   pub groups : (g : ℕ) → g < groupsOf (h .frames) → group s h g ≡ part g
   pub after : List ℕ
   pub data-is : drop (h .start) s ≡ joined part (groupsOf (h .frames)) ++ after
+
+-- what opening says of such numbers
+abbrev pub headerFor : Fields → SampleFormat → Header
+headerFor h f =
+    record {
+      channels = h .channels;
+      depth = depthOf (h .depth);
+      rate = h .rate;
+      frames = record { 0 = h .frames };
+      table = h .table;
+      start = h .start;
+      size = h .size;
+      groups = groupsOf (h .frames);
+      format = f;
+    }
 
 -- what lies between two entries is a part
 pub between : (P : ℕ → List ℕ) (g n start e0 e1 : ℕ) (a c : List ℕ) → g < n → length a ≡ start → e0 ≡ length (joined P g) → e1 ≡ length (joined P (g + 1))
@@ -113,6 +132,13 @@ module _ {s : List ℕ} {h : Fields} {part : ℕ → List ℕ} (lay : Layout s h
       and-then (ap (λ (x : Fields). checkOffsets x (length s)) (lay .fields) ∙ lay .offsets)
       and-then (ap (checkTable s) (lay .fields) ∙ table-fine)
       and-then (ap (checkFirst s) (lay .fields) ∙ first-block)
+
+  -- and says its numbers
+  pub open-says : openOf s ≡ answeredBy (Opened (headerFor h Pcm))
+  unfolding openOf headerOf
+  open-says =
+      ap₂ (λ (c : Checked) (x : Fields). answered c (Opened (headerFor x (formatOf s x)))) open-fine (lay .fields)
+      ∙ ap (λ (f : SampleFormat). answeredBy (Opened (headerFor h f))) format-is
 
   -- decoding refuses nothing
   pub decode-fine : checkDecode s ≡ Fine

@@ -1,17 +1,22 @@
--- The demands, each one theorem with a name, and the laws that lead to them.
--- what is written is read back: a block, a group, a file
+-- The demands, each one theorem with a name: read these first.
+pub mod Demands
+pub mod Hosts
+pub mod Certain
+pub mod Contents
+pub mod Impostors
+-- what law three asks of a template, and why
+pub mod MidSums
+pub mod Premise
+-- The laws that lead to them: what an outcome tells, what a writer's answer does
+pub mod Outcomes
+pub mod Files
+-- what is written is read back: a block, a group, a file; encoding, then decoding
 pub mod BlockLaws
 pub mod GroupLaws
 pub mod GroupCoding
 pub mod Laid
 pub mod FileLaws
--- what an outcome tells
-pub mod Outcomes
--- encoding, then decoding
 pub mod RoundTrip
--- what is asked of a template that its own samples should keep, and why
-pub mod MidSums
-pub mod Premise
 -- re-encoding: a block, a group, a file, and that file as a template
 pub mod NewBlocks
 pub mod Bytes
@@ -19,12 +24,6 @@ pub mod Kept
 pub mod NewGroups
 pub mod Refile
 pub mod Again
-pub mod Files
--- the walk; parity
-pub mod WalkLaws
+-- parity; the walk
 pub mod ParityLaws
--- the demands
-pub mod Demands
-pub mod Certain
-pub mod Contents
-pub mod Impostors
+pub mod WalkLaws

@@ -7,6 +7,8 @@ use native.Mathlib.Omega.{arith}
 use lib.ListN.{length, getD, take, drop, length-append, take-append-drop, List·getD-append}
 use lib.Seq.{ext-getD, getD-take, length-take-le, take-append-le, drop-length}
 use lib.IntN.{ℤ, pos}
+use mir.Syntax.{w32}
+use mir.Val.{SFits}
 use lib.Dec.{ltb, eqb, eqb·suc-zero}
 use borrow.Author.Tests.{le-ltb}
 use Rattle.format.specs.Lists.{tab, joined, same}
@@ -27,11 +29,12 @@ use Rattle.laws.proofs.Lengths.{samples-512}
 use Rattle.laws.proofs.Parts.{length-tab, getD-tab, joined-cong, from-within}
 use Rattle.laws.proofs.Checks.{pass, _and-then_, _then-same_, in-order, order-cong}
 use Rattle.laws.proofs.Signs.{AllHold}
-use Rattle.laws.proofs.Wrap.{Fit}
+use Rattle.laws.proofs.Each.{Each, each-tab}
+use Rattle.laws.proofs.Wrap.{Fit, zero-fits}
 use Rattle.promises.proofs.BlockLaws.{Reads, fit}
-use Rattle.laws.proofs.Channels.{Level, plain-at, plain-level, woven-back, woven-at, active-low}
+use Rattle.laws.proofs.Channels.{Level, plain-at, plain-level, woven-back, woven-at, each-woven, active-low}
 use Rattle.promises.proofs.MidSums.{Stays}
-use Rattle.laws.proofs.Stereo.{both-level, both-back, frames-stay, two-channels, frame-same, both-kept}
+use Rattle.laws.proofs.Stereo.{both-level, both-back, two-channels, both-fit, frame-same, both-kept, frames-stay}
 use Rattle.promises.proofs.GroupLaws.{not-float, front, rest-is, coded-is, group-fine, first-flags, first-mark, first-pcm, group-long}
 use Rattle.promises.proofs.GroupCoding.{Group}
 use Rattle.promises.proofs.NewBlocks.{newSamples, new-reads, block-same, check-same}
@@ -251,6 +254,21 @@ module _ {h : Fields} {g : ℕ} {bs : List ℕ} {s : List ℤ} (ok : Accepted h 
       by true m = ap length (read-both m) ∙ two-channels (tab n S) ∙ sym (two-ok m)
       by false m = ap length (read-plain m) ∙ length-tab n S
 
+  S-fit : (c : ℕ) → c < n → Fit (S c)
+  S-fit c q = samples-fit (h .depth) (r c) (ok .low) (ok .high) (blocks-ok c q .within)
+
+  -- its samples are of 32 bits
+  pub group-fit : Fit (groupSamples h Pcm g bs)
+  unfolding groupSamples
+  group-fit = each-woven (SFits w32) zero-fits k (channelsOf h Pcm bs) (by (midBit bs) refl)
+    where
+      coded-fit : Each Fit [] (tab n S)
+      coded-fit = each-tab Fit [] (λ i. zero-fits) n S S-fit
+
+      by : (t : Bool) → midBit bs ≡ t → Each Fit [] (channelsOf h Pcm bs)
+      by true m = subst (Each Fit []) (sym (read-both m)) (both-fit (tab n S) coded-fit)
+      by false m = subst (Each Fit []) (sym (read-plain m)) coded-fit
+
   module _ (byte : Below 256 bs) (own : s ≡ groupSamples h Pcm g bs) (stay : midBit bs ≡ true → (i : ℕ) → i < k → Stays (h .depth) bs i) where
     own-at : (c i : ℕ) → c < n → i < k → getD (getD (plain n s) c []) i (pos 0) ≡ getD (getD (channelsOf h Pcm bs) c []) i (pos 0)
     unfolding groupSamples
@@ -273,7 +291,7 @@ module _ {h : Fields} {g : ℕ} {bs : List ℕ} {s : List ℤ} (ok : Accepted h 
         ap (λ (cs : List (List ℤ)). getD cs c []) (chans-both m)
         ∙ both-kept S k
         (λ d u. omega (arith, samples-512 (h .depth) (r d) (blocks-ok d (omega arith) .within), active-low (h .frames) g))
-        (λ d u. samples-fit (h .depth) (r d) (ok .low) (ok .high) (blocks-ok d (omega arith) .within))
+        (λ d u. S-fit d (omega arith))
         (stay m) (plain n s) (λ d u. plains .long d (omega arith))
         (λ d i u p. own-at d i (omega arith) p ∙ ap (λ (cs : List (List ℤ)). getD (getD cs d []) i (pos 0)) (read-both m ∙ ap (λ (x : ℕ). leftRight Pcm (tab x S)) two))
         c (omega arith)

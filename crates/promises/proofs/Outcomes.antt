@@ -1,5 +1,5 @@
 -- Outcomes read backwards: from what was answered, what the checks said and what lent memory holds.
-use Prim.Native.Nat.{ℕ, _*_, _^_, _≤_, _<_}
+use Prim.Native.Nat.{ℕ, _+_, _*_, _/_, _^_, _≤_, _<_}
 use mathlib.Core.Path.{_≡_, refl, sym, ap, ap₂, _∙_}
 use mathlib.Core.Bool.{Bool, true, false}
 use mathlib.Core.List.{List}
@@ -8,10 +8,11 @@ use native.Mathlib.Nat.{mul-comm}
 use lib.ListN.{length, take, drop}
 use lib.Seq.{take-at}
 use lib.IntN.{ℤ}
-use borrow.Author.Tests.{le-ltb}
+use lib.Dec.{ltb}
+use borrow.Author.Tests.{le-ltb, ltb-false}
 use Rattle.format.specs.Lists.{over}
 use Rattle.format.specs.Header.{fieldsOf}
-use Rattle.format.specs.Refusals.{_then_}
+use Rattle.format.specs.Refusals.{number, refuse, _then_}
 use Rattle.format.specs.Answers.{answeredBy, refusedBy, answered, filled, read, wrote}
 use Rattle.format.specs.Decoding.{checkDecode, decodedOf, decodedCount, checkRoom, decodeOf, decodeInto}
 use Rattle.format.specs.declared.units.Samples.{Samples}
@@ -22,9 +23,9 @@ use Rattle.format.specs.declared.answers.Outcome.{Outcome}
 use Rattle.format.specs.declared.answers.Outcome.the-variants.{Opened, Read, Finished, Wrote, Refused}
 use Rattle.format.specs.declared.answers.Answer.{Answer}
 use Rattle.laws.proofs.Tests.{never}
-use Rattle.format.specs.Boundary.{result}
-use Rattle.format.specs.Promises.{Decodes}
-use Rattle.laws.proofs.Checks.{pass, _and-then_, first-fine}
+use Rattle.format.specs.Boundary.{sampleBytes, result, hostDecode, hostDecodeInto}
+use Rattle.format.specs.Promises.{Decodes, HostDecodes}
+use Rattle.laws.proofs.Checks.{pass, passed, _and-then_, first-fine, others-fine}
 use Rattle.laws.proofs.Lengths.{decode-writes}
 
 -- A exactly when B
@@ -83,6 +84,10 @@ module _ (c : Checked) (m n : ℕ) (e : wrote n ≡ answered c (Wrote m)) where
   pub wrote-length : n ≡ m
   wrote-length = let q = succeeds-as c (Wrote m) (Wrote n) refl e in cc
 
+-- frames × channels are what a file decodes to
+pub decode-count : (f : List ℕ) → checkDecode f ≡ Fine → fieldsOf f .frames * fieldsOf f .channels ≡ length (decodedOf f)
+decode-count f fine = mul-comm (fieldsOf f .frames) (fieldsOf f .channels) ∙ sym (decode-writes f fine)
+
 -- ---- an answer that n samples of the file f were read
 module _ (f : List ℕ) (lent after : List ℤ) (n : ℕ) (d : Decodes f lent (read n) after) where
   abbrev c : Checked
@@ -105,39 +110,48 @@ module _ (f : List ℕ) (lent after : List ℤ) (n : ℕ) (d : Decodes f lent (r
   -- they are what it decodes to
   pub samples-read : take n after ≡ decodedOf f
   unfolding decodeInto
-  samples-read = written-front c n (decodedOf f) lent after read-passed (read-count ∙ mul-comm (fieldsOf f .frames) (fieldsOf f .channels) ∙ sym (decode-writes f read-fine)) (d .1)
+  samples-read = written-front c n (decodedOf f) lent after read-passed (read-count ∙ decode-count f read-fine) (d .1)
 
 -- ---- a file that decodes to s, into enough room
-module _ (f : List ℕ) (s : List ℤ) (fine : checkDecode f ≡ Fine) (gives : decodedOf f ≡ s) (out : List ℤ) (room : length s ≤ length out) where
+module _ (f : List ℕ) (s : List ℤ) (fine : checkDecode f ≡ Fine) (gives : decodedOf f ≡ s) (room : ℕ) (enough : length s ≤ room) where
   count-is : fieldsOf f .frames * fieldsOf f .channels ≡ length s
-  count-is = mul-comm (fieldsOf f .frames) (fieldsOf f .channels) ∙ sym (decode-writes f fine) ∙ ap length gives
+  count-is = decode-count f fine ∙ ap length gives
 
-  all-fine : (checkDecode f then checkRoom f (length out)) ≡ Fine
+  pub all-fine : (checkDecode f then checkRoom f room) ≡ Fine
   unfolding checkRoom
-  all-fine = fine and-then pass _ _ (le-ltb (length out) (fieldsOf f .frames * fieldsOf f .channels) (omega (arith, count-is)))
+  all-fine = fine and-then pass _ _ (le-ltb room (fieldsOf f .frames * fieldsOf f .channels) (omega (arith, count-is)))
 
   -- says how many they are
-  pub reads-all : decodeOf f (length out) ≡ read (length s)
+  pub reads-all : decodeOf f room ≡ read (length s)
   unfolding decodeOf
   reads-all = ap₂ (λ (c : Checked) (k : ℕ). answered c (Read (record { 0 = k }))) all-fine count-is
 
-  -- and writes them
-  pub writes-all : decodeInto f out ≡ over s out
-  unfolding decodeInto
-  writes-all = ap₂ (λ (c : Checked) (w : List ℤ). filled c w out) all-fine gives
-
--- a file that decodes to s, whatever is lent that has room
+-- and writes them: whatever is lent that has room
 pub decodes-to : (f : List ℕ) (s out after : List ℤ) (r : Answer) → checkDecode f ≡ Fine → decodedOf f ≡ s → length s ≤ length out → Decodes f out r after → (r ≡ read (length s)) × (after ≡ over s out)
-decodes-to f s out after r fine gives room d = (d .0 ∙ reads-all f s fine gives out room, d .1 ∙ writes-all f s fine gives out room)
+unfolding decodeInto
+decodes-to f s out after r fine gives room d =
+    (d .0 ∙ reads-all f s fine gives (length out) room, d .1 ∙ ap₂ (λ (c : Checked) (w : List ℤ). filled c w out) (all-fine f s fine gives (length out) room) gives)
+
+-- at the host boundary their bytes
+pub host-decodes-to : (f : List ℕ) (s : List ℤ) (out after : List ℕ) (r : ℕ) → checkDecode f ≡ Fine → decodedOf f ≡ s → length s ≤ length out / 4 → HostDecodes f out r after
+    → (r ≡ 4 * length s) × (after ≡ over (sampleBytes s) out)
+unfolding hostDecode hostDecodeInto
+host-decodes-to f s out after r fine gives room d = (
+  d .0 ∙ ap (λ (a : Answer). result (a .outcome)) (reads-all f s fine gives (length out / 4) room),
+  d .1 ∙ ap₂ (λ (c : Checked) (w : List ℤ). filled c (sampleBytes w) out) (all-fine f s fine gives (length out / 4) room) gives,
+)
 
 -- ---- at the host boundary a refusal is a number from 2 ^ 63 on, and a length below it: no slice is as long as that
 module _ (c : Checked) (o : Outcome) where
-  pub host-fine : result (answered c o .outcome) < 2 ^ 63 → c ≡ Fine
-  host-fine = by c
+  pub host-fine : (n : ℕ) → n ≡ result (answered c o .outcome) → n < 2 ^ 63 → c ≡ Fine
+  host-fine n = by c
     where
-      by : (k : Checked) → result (answered k o .outcome) < 2 ^ 63 → k ≡ Fine
-      by Fine l = refl
-      by (No r) l = absurd (omega arith)
+      by : (k : Checked) → n ≡ result (answered k o .outcome) → n < 2 ^ 63 → k ≡ Fine
+      by Fine e l = refl
+      by (No r) e l = absurd (omega arith)
+
+  pub host-length : (n : ℕ) → n ≡ result (answered c o .outcome) → n < 2 ^ 63 → n ≡ result o
+  host-length n e l = e ∙ ap (λ (k : Checked). result (answered k o .outcome)) (host-fine n e l)
 
   pub host-refused : (c ≡ Fine → result o < 2 ^ 63) → 2 ^ 63 ≤ result (answered c o .outcome) → (r : Refusal) × (c ≡ No r)
   host-refused = by c
@@ -145,3 +159,21 @@ module _ (c : Checked) (o : Outcome) where
       by : (k : Checked) → (k ≡ Fine → result o < 2 ^ 63) → 2 ^ 63 ≤ result (answered k o .outcome) → (r : Refusal) × (k ≡ No r)
       by Fine few l = let q = few refl in absurd (omega arith)
       by (No r) few l = (r, refl)
+
+  -- where only x has its number, that number is told exactly when the checks refuse by x
+  pub host-exactly-no : (c ≡ Fine → result o < 2 ^ 63) → (x : Refusal) → ((y : Refusal) → number y ≡ number x → y ≡ x) → (r : ℕ) → r ≡ result (answered c o .outcome)
+      → Exactly (r ≡ 2 ^ 63 + number x) (c ≡ No x)
+  host-exactly-no few x only r e = (refuses, told (No x))
+    where
+      told : (k : Checked) → c ≡ k → r ≡ result (answered k o .outcome)
+      told k q = e ∙ ap (λ (k : Checked). result (answered k o .outcome)) q
+
+      refuses : r ≡ 2 ^ 63 + number x → c ≡ No x
+      refuses q =
+          let y = host-refused few (omega arith) in
+          let t : r ≡ 2 ^ 63 + number (y .0) = told (No (y .0)) (y .1) in
+          y .1 ∙ ap No (only (y .0) (omega arith))
+
+-- ---- what passed the check of the room has room
+pub has-room : (a : Checked) (room m : ℕ) (r : Refusal) → (a then refuse (ltb room m) r) ≡ Fine → m ≤ room
+has-room a room m r e = ltb-false room m (passed _ _ (others-fine a _ e))

@@ -8,13 +8,15 @@ use native.Mathlib.Numerals.{add-one}
 use native.Mathlib.Decide.{decLe}
 use lib.ListN.{length, take, drop, take-append-drop}
 use lib.Seq.{drop-at, drop-drop, take-all, length-take-le}
-use lib.IntN.{ℤ}
+use lib.IntN.{ℤ, pos}
+use mir.Syntax.{w32}
+use mir.Val.{SFits}
 use borrow.Author.Tests.{le-ltb, eq-eqb}
 use Rattle.format.specs.Lists.{joined, from, same}
 use Rattle.format.specs.Numbers.{num, numAt, Below}
 use Rattle.format.specs.Header.{signature, isSignature, fieldsOf, groupsOf, entry, group}
 use Rattle.format.specs.Units.{isDepth}
-use Rattle.format.specs.Opening.{checkOffsets}
+use Rattle.format.specs.Opening.{checkOffsets, openOf}
 use Rattle.format.specs.Decoding.{active, groupSamples, checkDecode, decodedOf}
 use Rattle.format.specs.Encoding.{groupIn}
 use Rattle.format.specs.Reencoding.{checkTemplate, checkReencode, refileOf}
@@ -24,15 +26,17 @@ use Rattle.format.specs.declared.settings.SampleFormat.the-variants.{Pcm}
 use Rattle.format.specs.declared.answers.Fields.{Fields}
 use Rattle.laws.proofs.Parts.{from-within, from-from, length-from, part-at, joined-cong, meet}
 use Rattle.laws.proofs.Checks.{pass, _and-then_}
+use Rattle.laws.proofs.Each.{each-joined}
+use Rattle.laws.proofs.Wrap.{Fit, zero-fits}
 use Rattle.laws.proofs.Lengths.{group-writes, active-sum}
 use Rattle.laws.proofs.Channels.{group-starts, group-length, group-holds, groups-joined}
 use Rattle.promises.proofs.GroupCoding.{Group}
-use Rattle.promises.proofs.Laid.{Layout, between, decode-fine, decode-gives}
+use Rattle.promises.proofs.Laid.{Layout, between, open-says, decode-fine, decode-gives}
 use Rattle.laws.proofs.SampleChecks.{Valid, reencoder-ok, values-ok}
 use Rattle.laws.proofs.TemplateFiles as F
 use Rattle.promises.proofs.Bytes.{below-group}
 use Rattle.promises.proofs.MidSums.{NoneLeaves}
-use Rattle.promises.proofs.NewGroups.{Accepted, new-group, template-group, group-kept, group-stays}
+use Rattle.promises.proofs.NewGroups.{Accepted, new-group, template-group, group-fit, group-kept, group-stays}
 
 from-none : (i : ℕ) (s : List ℕ) → from i 0 s ≡ []
 unfolding from
@@ -209,21 +213,30 @@ module _ (p : PcmSpec) (s : List ℤ) (t : List ℕ) (ok : checkReencode p s t �
         data-is = sym data-there;
       }
 
-  templates-ok : (g : ℕ) → g < count → Group h g (groupSamples h Pcm g (group t h g)) (group t h g)
+  abbrev P : ℕ → List ℤ
+  P g = groupSamples h Pcm g (group t h g)
+
+  templates-ok : (g : ℕ) → g < count → Group h g (P g) (group t h g)
   templates-ok g l = template-group (accepted g l)
+
+  -- opening says the same of both
+  pub opens-same : openOf (refileOf s t) ≡ openOf t
+  opens-same =
+      open-says layout (groupIn (h .channels) s) some depth rate parts-ok ∙ sym (open-says template-layout (λ g. groupSamples h Pcm g (group t h g)) some depth rate templates-ok)
 
   -- what re-encoding accepts as a template, decoding accepts
   pub template-decodes : checkDecode t ≡ Fine
-  template-decodes = decode-fine template-layout (λ g. groupSamples h Pcm g (group t h g)) some depth rate templates-ok
+  template-decodes = decode-fine template-layout P some depth rate templates-ok
+
+  template-gives : decodedOf t ≡ joined P count
+  template-gives = decode-gives template-layout P some depth rate templates-ok
+
+  -- to samples of 32 bits
+  pub template-fit : Fit (decodedOf t)
+  template-fit = subst Fit (sym template-gives) (each-joined (SFits w32) (pos 0) zero-fits P count (λ g l. group-fit (accepted g l)))
 
   -- what the template decodes to, re-encoded, where no mid plus side or mid minus side leaves 32 bits: sums wrap, so that others may be read as the same samples
   module _ (byte : Below 256 t) (own : s ≡ decodedOf t) (none : NoneLeaves t) where
-    abbrev P : ℕ → List ℤ
-    P g = groupSamples h Pcm g (group t h g)
-
-    all-own : s ≡ joined P count
-    all-own = own ∙ decode-gives template-layout P some depth rate templates-ok
-
     P-length : (g : ℕ) → g < count → length (P g) ≡ h .channels * active (h .frames) g
     P-length g l = group-writes h Pcm (group t h g) some (templates-ok g l .fine) g
 
@@ -236,7 +249,7 @@ module _ (p : PcmSpec) (s : List ℤ) (t : List ℕ) (ok : checkReencode p s t �
         let e : min (h .frames) (512 * g) ≡ 512 * g = omega arith in
         let off : 512 * n * g ≡ length (joined P g) = group-starts n g ∙ ap (λ (x : ℕ). n * x) (sym e) ∙ sym (active-sum (h .frames) n P g (λ j q. P-length j (omega arith))) in
         take-own (512 * n) (drop (512 * n * g) s) (length (P g)) len
-        ∙ ap (from (512 * n * g) (length (P g))) (all-own ∙ sym (append-nil (joined P count)))
+        ∙ ap (from (512 * n * g) (length (P g))) (own ∙ template-gives ∙ sym (append-nil (joined P count)))
         ∙ part-at P g count (512 * n * g) (length (P g)) [] [] l (off ∙ sum-zero (length (joined P g))) refl
       where
         sum-zero : (x : ℕ) → x ≡ 0 + x

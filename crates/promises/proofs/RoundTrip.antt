@@ -10,17 +10,21 @@ use lib.Dec.{eqb}
 use borrow.Author.Tests.{ltb-false, eqb-true, not-false}
 use Rattle.format.specs.Lists.{anyBelow}
 use Rattle.format.specs.Header.{groupsOf}
+use Rattle.format.specs.Answers.{answeredBy}
+use Rattle.format.specs.Opening.{openOf}
 use Rattle.format.specs.Decoding.{checkDecode, decodedOf}
 use Rattle.format.specs.Encoding.{parity, plain, groupIn, isMidSide, checkEncoder, checkSamples, checkStereo, groupAt, fileOf, checkSize, checkEncode}
 use Rattle.format.specs.declared.refusals.Checked.the-variants.{Fine}
 use Rattle.format.specs.declared.settings.PcmSpec.{PcmSpec}
 use Rattle.format.specs.declared.settings.StereoMode.{StereoMode}
 use Rattle.format.specs.declared.settings.StereoMode.the-variants.{MidSide}
+use Rattle.format.specs.declared.settings.SampleFormat.the-variants.{Pcm}
 use Rattle.format.specs.declared.answers.Fields.{Fields}
+use Rattle.format.specs.declared.answers.Outcome.the-variants.{Opened}
 use Rattle.laws.proofs.Checks.{first-fine, others-fine, passed, found-below}
 use Rattle.laws.proofs.Channels.{group-length, group-holds, groups-joined}
 use Rattle.promises.proofs.GroupCoding.{Group, group-codes}
-use Rattle.promises.proofs.Laid.{Layout, decode-fine, decode-gives}
+use Rattle.promises.proofs.Laid.{Layout, headerFor, open-says, decode-fine, decode-gives}
 use Rattle.promises.proofs.FileLaws.{Small, first, total, head, assembled-layout}
 use Rattle.laws.proofs.SampleChecks.{encoder-ok, frames-ok, values-ok, count-ok}
 
@@ -94,6 +98,10 @@ module _ (p : PcmSpec) (mode : StereoMode) (s : List ℤ) (ok : checkEncode p mo
     pub layout : Layout (fileOf p mode s) h part
     unfolding fileOf
     layout = assembled-layout p frames part small
+
+    -- opening says what it was made of
+    pub opens : openOf (fileOf p mode s) ≡ answeredBy (Opened (headerFor h Pcm))
+    opens = let v = encoder-ok p writer-ok in open-says layout (groupIn (p .channels) s) (v .some) (v .depth) (v .rate) groups-ok
 
     -- decoding accepts the file
     pub decodes : checkDecode (fileOf p mode s) ≡ Fine
