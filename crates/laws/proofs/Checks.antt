@@ -1,11 +1,11 @@
 -- Laws of checks in order.
-use Prim.Native.Nat.{ℕ, zero, suc, _<_}
+use Prim.Native.Nat.{ℕ, zero, suc, _<_, _≤_}
 use mathlib.Core.Path.{_≡_, refl, sym, ap, ap₂, _∙_, subst}
 use mathlib.Core.Bool.{Bool, true, false, _||_}
 use mathlib.Core.Logic.{⊎-elim}
 use native.Mathlib.Omega.{arith}
-use lib.Dec.{eqb}
-use borrow.Author.Tests.{eq-eqb}
+use lib.Dec.{ltb, eqb}
+use borrow.Author.Tests.{ltb-false, eq-eqb}
 use Rattle.format.specs.Lists.{anyBelow}
 use Rattle.format.specs.Refusals.{number, refuse, _then_, inOrder}
 use Rattle.format.specs.declared.refusals.Refusal.{Refusal}
@@ -49,6 +49,10 @@ pub others-fine : (a b : Checked) → (a then b) ≡ Fine → b ≡ Fine
 unfolding _then_
 others-fine Fine b e = e
 others-fine (No r) b e = cc
+
+-- what passed the check of the room has room
+pub has-room : (a : Checked) (room m : ℕ) (r : Refusal) → (a then refuse (ltb room m) r) ≡ Fine → m ≤ room
+has-room a room m r e = ltb-false room m (passed _ _ (others-fine a _ e))
 
 -- ---- which refusal: x is not what c says
 abbrev pub Unsaid : Refusal → Checked → Type 0

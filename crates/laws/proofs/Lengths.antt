@@ -4,7 +4,7 @@ use mathlib.Core.Path.{_≡_, refl, sym, ap, ap₂, _∙_}
 use mathlib.Core.Bool.{Bool, true, false, cond}
 use mathlib.Core.List.{List, [], _∷_, map}
 use native.Mathlib.Omega.{arith}
-use native.Mathlib.Nat.{mul-suc, mul-zero, mul-add}
+use native.Mathlib.Nat.{mul-suc, mul-zero, mul-add, mul-comm}
 use lib.ListN.{length, getD, take, drop, length-append, length-map}
 use lib.IntN.{ℤ, pos}
 use Rattle.format.specs.Lists.{tab, joined}
@@ -84,3 +84,6 @@ module _ (s : List ℕ) (fine : checkDecode s ≡ Fine) where
       active-sum (h .frames) (h .channels) (λ g. groupSamples h (formatOf s h) g (group s h g)) ((h .frames + 511) / 512)
       (λ g l. group-writes h (formatOf s h) (group s h g) (some-channels h (opened-fields s (first-fine _ _ fine))) (order-fine (λ g. checkGroup h (formatOf s h) (group s h g)) g ((h .frames + 511) / 512) l (others-fine (checkOpen s) _ fine)) g)
       ∙ ap (λ (x : ℕ). h .channels * x) e
+
+  pub decode-count : fieldsOf s .frames * fieldsOf s .channels ≡ length (decodedOf s)
+  decode-count = mul-comm (fieldsOf s .frames) (fieldsOf s .channels) ∙ sym decode-writes

@@ -2,10 +2,8 @@
 use Prim.Native.Nat.{ℕ, _*_, _/_, _≤_}
 use mathlib.Core.Path.{_≡_, refl, sym, ap, _∙_}
 use mathlib.Core.List.{List}
-use native.Mathlib.Nat.{mul-comm}
 use native.Mathlib.Omega.{arith}
 use lib.ListN.{length, drop}
-use borrow.Author.Tests.{ltb-false}
 use Rattle.format.specs.Numbers.{Below}
 use Rattle.format.specs.Header.{fieldsOf}
 use Rattle.format.specs.Refusals.{_then_}
@@ -13,11 +11,12 @@ use Rattle.format.specs.Answers.{filled}
 use Rattle.format.specs.Opening.{openOf}
 use Rattle.format.specs.Decoding.{checkDecode, decodedOf, checkRoom, decodeOf, decodeInto}
 use Rattle.format.specs.Boundary.{samplesFrom, sampleBytes, result, hostOpen, hostDecode, hostDecodeInto}
+use Rattle.format.specs.declared.refusals.Refusal.the-variants.{OutputTooShort}
 use Rattle.format.specs.declared.refusals.Checked.{Checked}
 use Rattle.format.specs.declared.refusals.Checked.the-variants.{Fine, No}
 use Rattle.format.specs.declared.answers.Answer.{Answer}
-use Rattle.laws.proofs.Checks.{passed, first-fine, others-fine}
-use Rattle.laws.proofs.Lengths.{decode-writes}
+use Rattle.laws.proofs.Checks.{first-fine, has-room}
+use Rattle.laws.proofs.Lengths.{decode-count}
 use Rattle.lent.proofs.Laws.{length-lent}
 use Rattle.lent.proofs.Outcome.{same-bytes, bytes-over}
 
@@ -32,8 +31,8 @@ told-decode s b a r e p = e ∙ ap (λ (x : Answer). result (x .outcome)) (p ∙
 decoded-room : (s : List ℕ) (room : ℕ) → (checkDecode s then checkRoom s room) ≡ Fine → length (decodedOf s) ≤ room
 unfolding checkRoom
 decoded-room s room fine =
-    let fits = ltb-false room (fieldsOf s .frames * fieldsOf s .channels) (passed _ _ (others-fine (checkDecode s) _ fine)) in
-    omega (arith, fits, decode-writes s (first-fine _ _ fine), mul-comm (fieldsOf s .channels) (fieldsOf s .frames))
+    let fits = has-room (checkDecode s) room (fieldsOf s .frames * fieldsOf s .channels) OutputTooShort fine in
+    omega (arith, decode-count s (first-fine _ _ fine))
 
 pub put-bytes :
     (s b d : List ℕ) → Below 256 b → Below 256 d → samplesFrom d ≡ decodeInto s (samplesFrom b) → drop (length d / 4 * 4) d ≡ drop (length b / 4 * 4) b → d ≡ hostDecodeInto s b

@@ -29,8 +29,8 @@ use Rattle.format.specs.declared.answers.Answer.{Answer}
 use Rattle.lent.specs.Lent.{lentOf, restOf}
 use Rattle.lent.specs.declared.Container.{Container}
 use Rattle.lent.proofs.Outcome.{one-outcome}
-use Rattle.laws.proofs.Checks.{others-fine}
-use Rattle.promises.proofs.Outcomes.{Exactly, isRefused, exactly-no, no-keeps, refused-keeps, host-refused, has-room}
+use Rattle.laws.proofs.Checks.{others-fine, has-room}
+use Rattle.promises.proofs.Outcomes.{Exactly, isRefused, exactly-no, no-keeps, refused-keeps, host-refused}
 
 -- ---- each refusal has its exact condition: what the checks say, which stand in document 01's order
 

@@ -13,7 +13,7 @@ use Rattle.format.specs.Decoding.{checkGroup, active, checkDecode, decodedOf, d
 use Rattle.format.specs.Walking.{stepSamples}
 use Rattle.format.specs.Encoding.{groupIn, groupAt, fileOf}
 use Rattle.format.specs.Reencoding.{newGroup}
-use Rattle.format.specs.Promises.{Opens, Decodes, Encodes, Reencodes}
+use Rattle.format.specs.Promises.{Opens, Decodes, Steps, Encodes, Reencodes}
 use Rattle.format.specs.declared.refusals.Checked.{Checked}
 use Rattle.format.specs.declared.settings.PcmSpec.{PcmSpec}
 use Rattle.format.specs.declared.settings.StereoMode.{StereoMode}
@@ -32,7 +32,7 @@ use Rattle.promises.proofs.Laid.{headerFor}
 use Rattle.promises.proofs.FileLaws.{fieldsFor}
 use Rattle.promises.proofs.RoundTrip as RoundTrip
 use Rattle.promises.proofs.Refile as Refile
-use Rattle.promises.proofs.WalkLaws.{steps-joined}
+use Rattle.promises.proofs.WalkLaws.{steps-joined, step-count, step-leaves}
 use Rattle.promises.proofs.Files.{encode-ok, file-long, file-written, reencode-ok, as-long, new-file}
 use Rattle.promises.proofs.Demands.{Rate32}
 
@@ -41,6 +41,8 @@ pub record EveryGroup : Type 0 where
   -- the samples of group g lie where its frames do
   pub decoded : (s : List ℕ) (lent after : List ℤ) (n : ℕ) → Decodes s lent (read n) after
       → let h = fieldsOf s in (g : ℕ) → g < groupsOf (h .frames) → from (512 * h .channels * g) (h .channels * active (h .frames) g) after ≡ stepSamples s g
+  -- a step leaves them at the front, and says how many they are
+  pub stepped : (s : List ℕ) (g : ℕ) (lent after : List ℤ) (n : ℕ) → Steps s g lent (read n) after → take n after ≡ stepSamples s g
   -- group g of the file is that of the samples' group g
   pub encoded : (p : PcmSpec) (mode : StereoMode) (s : List ℤ) (lent file : List ℕ) (n : ℕ) → Rate32 p → Encodes p mode s lent (wrote n) file
       → (g : ℕ) → g < groupsOf (length s / p .channels) → group (take n file) (fieldsOf (take n file)) g ≡ groupAt p mode s g
@@ -87,6 +89,7 @@ pub every-group : EveryGroup
 every-group =
     record {
       decoded = step-lies;
+      stepped = step-leaves;
       encoded = λ p mode s lent file n rate e g l.
           let ok = encode-ok p mode s lent file n e in
           let lay = RoundTrip.layout p mode s ok rate in
@@ -101,6 +104,7 @@ every-group =
 pub record LengthsAre : Type 0 where
   -- frames × channels
   pub decoded : (s : List ℕ) (lent after : List ℤ) (n : ℕ) → Decodes s lent (read n) after → n ≡ fieldsOf s .frames * fieldsOf s .channels
+  pub stepped : (s : List ℕ) (g : ℕ) (lent after : List ℤ) (n : ℕ) → Steps s g lent (read n) after → n ≡ active (fieldsOf s .frames) g * fieldsOf s .channels
   -- the data offset and the sum of block lengths, each 16 + 64 × width
   pub encoded : (p : PcmSpec) (mode : StereoMode) (s : List ℤ) (lent file : List ℕ) (n : ℕ) → Encodes p mode s lent (wrote n) file
       → let frames = length s / p .channels in n ≡ offsetOf frames + sum (λ g. blocksIn (p .«bits_per_sample») (codedAt p mode s g)) (groupsOf frames)
@@ -111,6 +115,7 @@ pub lengths-are : LengthsAre
 lengths-are =
     record {
       decoded = read-count;
+      stepped = step-count;
       encoded = λ p mode s lent file n e. file-long p mode s lent file n e ∙ file-size p mode s;
       reencoded = as-long;
     }

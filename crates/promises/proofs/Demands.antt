@@ -25,8 +25,6 @@ use Rattle.format.specs.declared.answers.Outcome.the-variants.{Opened, Wrote}
 use Rattle.format.specs.declared.answers.Answer.{Answer}
 use Rattle.laws.proofs.Checks.{first-fine}
 use Rattle.promises.proofs.Outcomes.{Exactly, exactly-no, samples-read, decodes-to}
-use Rattle.laws.proofs.Lengths.{decode-writes}
-use Rattle.laws.proofs.TemplateFiles.{samples-ok, template-ok, all-frames}
 use Rattle.promises.proofs.RoundTrip as RoundTrip
 use Rattle.promises.proofs.MidSums.{NoneLeaves}
 use Rattle.promises.proofs.Refile as Refile
@@ -110,6 +108,7 @@ law-three-only p s t lent file n e back = Refile.kept-stays p s t (reencode-ok p
 
 -- ---- 6. ACCEPTED TEMPLATES OPEN AND DECODE
 
+-- where samples are accepted with t, opening t says its header, and decoding it into as much room says that it has as many samples
 pub templates-decode : (p : PcmSpec) (s : List ℤ) (t lent file : List ℕ) (n : ℕ)
     → Reencodes p s t lent (wrote n) file
     → ((r : Answer) → Opens t r → r ≡ answeredBy (Opened (headerOf t)))
@@ -118,7 +117,7 @@ unfolding openOf checkDecode
 templates-decode p s t lent file n e =
     let ok = reencode-ok p s t lent file n e in
     let fine = Refile.template-decodes p s t ok in
-    let long : length (decodedOf t) ≡ length s = decode-writes t fine ∙ sym (all-frames p s t (template-ok p s t ok) (samples-ok p s t ok)) in (
+    let long = Refile.template-count p s t ok in (
       λ r o. o ∙ ap (λ (c : Checked). answered c (Opened (headerOf t))) (first-fine _ _ fine),
       λ out after r room d. decodes-to t (decodedOf t) out after r fine refl (omega arith) d .0 ∙ ap read long,
     )

@@ -25,12 +25,11 @@ use Rattle.format.specs.declared.refusals.Checked.the-variants.{Fine}
 use Rattle.format.specs.declared.settings.PcmSpec.{PcmSpec}
 use Rattle.format.specs.declared.settings.StereoMode.the-variants.{MidSide}
 use Rattle.format.specs.declared.answers.Outcome.the-variants.{Opened, Read, Wrote}
-use Rattle.laws.proofs.Checks.{pass, passed, _and-then_, first-fine, others-fine}
-use Rattle.laws.proofs.Lengths.{decode-writes}
+use Rattle.laws.proofs.Checks.{pass, passed, _and-then_, first-fine, others-fine, has-room}
+use Rattle.laws.proofs.Lengths.{decode-count}
 use Rattle.laws.proofs.SampleBytes.{sample-bytes-length, samples-back, bytes-back}
-use Rattle.laws.proofs.TemplateFiles.{samples-ok, template-ok, all-frames}
 use Rattle.lent.proofs.Laws.{length-lent}
-use Rattle.promises.proofs.Outcomes.{Exactly, written-front, decode-count, host-decodes-to, host-fine, host-length, host-exactly-no, has-room}
+use Rattle.promises.proofs.Outcomes.{Exactly, written-front, host-decodes-to, host-fine, host-length, host-exactly-no}
 use Rattle.promises.proofs.MidSums.{NoneLeaves}
 use Rattle.promises.proofs.RoundTrip as RoundTrip
 use Rattle.promises.proofs.Refile as Refile
@@ -243,7 +242,7 @@ host-templates b p t lent file n e short =
     let ok = reencode-ok p s t lent file n (host-reencoded b p t lent n file e short) in
     let fine = Refile.template-decodes p s t ok in
     let count = bytes-count b (reencode-whole b p t lent n file e short) in
-    let long : length (decodedOf t) ≡ length s = decode-writes t fine ∙ sym (all-frames p s t (template-ok p s t ok) (samples-ok p s t ok)) in (
+    let long = Refile.template-count p s t ok in (
       λ r o. o ∙ ap (λ (c : Checked). result (answered c (Opened (headerOf t)) .outcome)) (first-fine _ _ fine)
           ∙ ap (λ (k : ℕ). 4 * k) (decode-count t fine ∙ long) ∙ count,
       λ out after r room d. host-decodes-to t (decodedOf t) out after r fine refl (omega arith) d .0 ∙ ap (λ (k : ℕ). 4 * k) long ∙ count,

@@ -4,15 +4,13 @@ use mathlib.Core.Path.{_≡_, refl, sym, ap, ap₂, _∙_}
 use mathlib.Core.Bool.{Bool, true, false}
 use mathlib.Core.List.{List}
 use native.Mathlib.Omega.{arith}
-use native.Mathlib.Nat.{mul-comm}
 use lib.ListN.{length, take, drop}
 use lib.Seq.{take-at}
 use lib.IntN.{ℤ}
-use lib.Dec.{ltb}
-use borrow.Author.Tests.{le-ltb, ltb-false}
+use borrow.Author.Tests.{le-ltb}
 use Rattle.format.specs.Lists.{over}
 use Rattle.format.specs.Header.{fieldsOf}
-use Rattle.format.specs.Refusals.{number, refuse, _then_}
+use Rattle.format.specs.Refusals.{number, _then_}
 use Rattle.format.specs.Answers.{answeredBy, refusedBy, answered, filled, read, wrote}
 use Rattle.format.specs.Decoding.{checkDecode, decodedOf, decodedCount, checkRoom, decodeOf, decodeInto}
 use Rattle.format.specs.declared.units.Samples.{Samples}
@@ -25,8 +23,8 @@ use Rattle.format.specs.declared.answers.Answer.{Answer}
 use Rattle.laws.proofs.Tests.{never}
 use Rattle.format.specs.Boundary.{sampleBytes, result, hostDecode, hostDecodeInto}
 use Rattle.format.specs.Promises.{Decodes, HostDecodes}
-use Rattle.laws.proofs.Checks.{pass, passed, _and-then_, first-fine, others-fine}
-use Rattle.laws.proofs.Lengths.{decode-writes}
+use Rattle.laws.proofs.Checks.{pass, _and-then_, first-fine}
+use Rattle.laws.proofs.Lengths.{decode-count}
 
 -- A exactly when B
 abbrev pub Exactly : Type 0 → Type 0 → Type 0
@@ -83,10 +81,6 @@ module _ (c : Checked) (m n : ℕ) (e : wrote n ≡ answered c (Wrote m)) where
 
   pub wrote-length : n ≡ m
   wrote-length = let q = succeeds-as c (Wrote m) (Wrote n) refl e in cc
-
--- frames × channels are what a file decodes to
-pub decode-count : (f : List ℕ) → checkDecode f ≡ Fine → fieldsOf f .frames * fieldsOf f .channels ≡ length (decodedOf f)
-decode-count f fine = mul-comm (fieldsOf f .frames) (fieldsOf f .channels) ∙ sym (decode-writes f fine)
 
 -- ---- an answer that n samples of the file f were read
 module _ (f : List ℕ) (lent after : List ℤ) (n : ℕ) (d : Decodes f lent (read n) after) where
@@ -173,7 +167,3 @@ module _ (c : Checked) (o : Outcome) where
           let y = host-refused few (omega arith) in
           let t : r ≡ 2 ^ 63 + number (y .0) = told (No (y .0)) (y .1) in
           y .1 ∙ ap No (only (y .0) (omega arith))
-
--- ---- what passed the check of the room has room
-pub has-room : (a : Checked) (room m : ℕ) (r : Refusal) → (a then refuse (ltb room m) r) ≡ Fine → m ≤ room
-has-room a room m r e = ltb-false room m (passed _ _ (others-fine a _ e))

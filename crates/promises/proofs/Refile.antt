@@ -28,7 +28,7 @@ use Rattle.laws.proofs.Parts.{from-within, from-from, length-from, part-at, joi
 use Rattle.laws.proofs.Checks.{pass, _and-then_}
 use Rattle.laws.proofs.Each.{each-joined}
 use Rattle.laws.proofs.Wrap.{Fit, zero-fits}
-use Rattle.laws.proofs.Lengths.{group-writes, active-sum}
+use Rattle.laws.proofs.Lengths.{group-writes, active-sum, decode-writes}
 use Rattle.laws.proofs.Channels.{group-starts, group-length, group-holds, groups-joined}
 use Rattle.promises.proofs.GroupCoding.{Group}
 use Rattle.promises.proofs.Laid.{Layout, between, open-says, decode-fine, decode-gives}
@@ -227,6 +227,10 @@ module _ (p : PcmSpec) (s : List ℤ) (t : List ℕ) (ok : checkReencode p s t �
   -- what re-encoding accepts as a template, decoding accepts
   pub template-decodes : checkDecode t ≡ Fine
   template-decodes = decode-fine template-layout P some depth rate templates-ok
+
+  -- as many samples
+  pub template-count : length (decodedOf t) ≡ length s
+  template-count = decode-writes t template-decodes ∙ sym all-frames
 
   template-gives : decodedOf t ≡ joined P count
   template-gives = decode-gives template-layout P some depth rate templates-ok
