@@ -70,9 +70,8 @@ checkOpen s =
     then checkFirst s h
 
 -- opening returns the header's numbers, the group count and the format
-unfoldable pub headerOf : List ℕ → Header
-headerOf s =
-    let h = fieldsOf s in
+abbrev pub headerFor : Fields → SampleFormat → Header
+headerFor h f =
     record {
       channels = h .channels;
       depth = depthOf (h .depth);
@@ -82,8 +81,11 @@ headerOf s =
       start = h .start;
       size = h .size;
       groups = groupsOf (h .frames);
-      format = formatOf s h;
+      format = f;
     }
+
+unfoldable pub headerOf : List ℕ → Header
+headerOf s = let h = fieldsOf s in headerFor h (formatOf s h)
 
 unfoldable pub openOf : List ℕ → Answer
 openOf s = answered (checkOpen s) (Opened (headerOf s))

@@ -8,7 +8,7 @@ use lib.IntN.{ℤ}
 use Rattle.format.specs.Lists.{joined, from, over}
 use Rattle.format.specs.Header.{fieldsOf, groupsOf, group}
 use Rattle.format.specs.Answers.{answeredBy, filled, read, wrote}
-use Rattle.format.specs.Opening.{checkOpen, formatOf, openOf}
+use Rattle.format.specs.Opening.{formatOf, checkOpen, headerFor, openOf}
 use Rattle.format.specs.Decoding.{checkGroup, active, checkDecode, decodedOf, decodeInto}
 use Rattle.format.specs.Walking.{stepSamples}
 use Rattle.format.specs.Encoding.{groupIn, groupAt, fileOf}
@@ -28,7 +28,6 @@ use Rattle.laws.proofs.Lengths.{group-writes, active-sum}
 use Rattle.laws.proofs.Channels.{group-starts}
 use Rattle.laws.proofs.Written.{sum, offsetOf, blocksIn, codedAt, file-size}
 use Rattle.promises.proofs.Outcomes.{read-passed, read-fine, read-count}
-use Rattle.promises.proofs.Laid.{headerFor}
 use Rattle.promises.proofs.FileLaws.{fieldsFor}
 use Rattle.promises.proofs.RoundTrip as RoundTrip
 use Rattle.promises.proofs.Refile as Refile

@@ -60,7 +60,7 @@ pub parity-exactly : (p : PcmSpec) (s : List ℤ) (lent after : List ℕ) (r : A
 unfolding encodeOf
 parity-exactly p s lent after r two e =
     let q = exactly-no (checkEncodeInto p MidSide s (length lent)) (Wrote (length (fileOf p MidSide s))) refl ParityDiffers r (e .0) in
-    (λ x. parity-so p s two (length lent) (q .0 x), λ x. q .1 (so-parity p s two (length lent) (x .0) (x .1)))
+    (λ x. parity-so p s two (length lent) ParityDiffers refl (q .0 x), λ x. q .1 (so-parity p s two (length lent) (x .0) (x .1)))
 
 -- ---- 3. LAW ONE: the new file decodes to the samples
 

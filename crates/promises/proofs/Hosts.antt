@@ -10,7 +10,7 @@ use lib.ListN.{length, take}
 use borrow.Author.Tests.{eq-eqb, eqb-true, not-false}
 use Rattle.format.specs.Lists.{over}
 use Rattle.format.specs.Numbers.{Below}
-use Rattle.format.specs.Refusals.{number, _then_}
+use Rattle.format.specs.Refusals.{_then_}
 use Rattle.format.specs.Answers.{answered, filled, wrote}
 use Rattle.format.specs.Opening.{headerOf, openOf}
 use Rattle.format.specs.Decoding.{checkDecode, decodedOf, decodedCount, checkRoom, decodeOf}
@@ -18,8 +18,7 @@ use Rattle.format.specs.Encoding.{fileOf, checkEncoder, checkSamples, checkEnco
 use Rattle.format.specs.Reencoding.{checkReencodeInto, refileOf, reencodeOf, reencodeInto}
 use Rattle.format.specs.Boundary.{samplesFrom, sampleBytes, isMode, modeOf, checkMode, checkBytes, result, hostOpen, hostDecode, hostDecodeInto, checkHostEncode, hostEncode, hostEncodeInto, checkHostReencode, hostReencode, hostReencodeInto}
 use Rattle.format.specs.Promises.{Encodes, Reencodes, HostOpens, HostDecodes, HostEncodes, HostReencodes}
-use Rattle.format.specs.declared.refusals.Refusal.{Refusal}
-use Rattle.format.specs.declared.refusals.Refusal.the-variants.{TooShort, FileSignature, BlockSignature, BitsWord, ZeroChannels, DepthUnknown, ZeroRate, TableOffset, DataOffset, TableLength, LastEntry, DataWithoutFrames, FirstEntry, EntryBounds, FloatDiffers, MidSideChannels, BytesLeft, WriterSpec, IncompleteFrame, ValueOutside, TooManyFrames, NotStereo, ParityDiffers, WidthTooSmall, DataTooLarge, UnknownMode, SampleBytes, TemplateDiffers, TemplateBounds, TemplateOffsets, ShortGroup, TemplateBits, TemplateFlags, TemplateBytesLeft, OutputTooShort}
+use Rattle.format.specs.declared.refusals.Refusal.the-variants.{OutputTooShort}
 use Rattle.format.specs.declared.refusals.Checked.{Checked}
 use Rattle.format.specs.declared.refusals.Checked.the-variants.{Fine}
 use Rattle.format.specs.declared.settings.PcmSpec.{PcmSpec}
@@ -29,7 +28,7 @@ use Rattle.laws.proofs.Checks.{pass, passed, _and-then_, first-fine, others-fin
 use Rattle.laws.proofs.Lengths.{decode-count}
 use Rattle.laws.proofs.SampleBytes.{sample-bytes-length, samples-back, bytes-back}
 use Rattle.lent.proofs.Laws.{length-lent}
-use Rattle.promises.proofs.Outcomes.{Exactly, written-front, host-decodes-to, host-fine, host-length, host-exactly-no}
+use Rattle.promises.proofs.Outcomes.{Exactly, written-front, host-decodes-to, host-fine, host-length, host-number}
 use Rattle.promises.proofs.MidSums.{NoneLeaves}
 use Rattle.promises.proofs.RoundTrip as RoundTrip
 use Rattle.promises.proofs.Refile as Refile
@@ -123,44 +122,6 @@ host-there-and-back b p mode lent file n out after r byte rate e short room d =
 
 -- ---- 2. PARITY
 
--- 35 is the number of this refusal only
-only-35 : (x : Refusal) → number x ≡ 35 → x ≡ ParityDiffers
-only-35 TooShort e = absurd (omega arith)
-only-35 FileSignature e = absurd (omega arith)
-only-35 BlockSignature e = absurd (omega arith)
-only-35 (BitsWord b) e = absurd (omega arith)
-only-35 ZeroChannels e = absurd (omega arith)
-only-35 DepthUnknown e = absurd (omega arith)
-only-35 ZeroRate e = absurd (omega arith)
-only-35 TableOffset e = absurd (omega arith)
-only-35 DataOffset e = absurd (omega arith)
-only-35 TableLength e = absurd (omega arith)
-only-35 LastEntry e = absurd (omega arith)
-only-35 DataWithoutFrames e = absurd (omega arith)
-only-35 FirstEntry e = absurd (omega arith)
-only-35 EntryBounds e = absurd (omega arith)
-only-35 FloatDiffers e = absurd (omega arith)
-only-35 MidSideChannels e = absurd (omega arith)
-only-35 BytesLeft e = absurd (omega arith)
-only-35 WriterSpec e = absurd (omega arith)
-only-35 IncompleteFrame e = absurd (omega arith)
-only-35 ValueOutside e = absurd (omega arith)
-only-35 TooManyFrames e = absurd (omega arith)
-only-35 NotStereo e = absurd (omega arith)
-only-35 ParityDiffers e = refl
-only-35 WidthTooSmall e = absurd (omega arith)
-only-35 DataTooLarge e = absurd (omega arith)
-only-35 UnknownMode e = absurd (omega arith)
-only-35 SampleBytes e = absurd (omega arith)
-only-35 TemplateDiffers e = absurd (omega arith)
-only-35 TemplateBounds e = absurd (omega arith)
-only-35 TemplateOffsets e = absurd (omega arith)
-only-35 ShortGroup e = absurd (omega arith)
-only-35 TemplateBits e = absurd (omega arith)
-only-35 TemplateFlags e = absurd (omega arith)
-only-35 TemplateBytesLeft e = absurd (omega arith)
-only-35 OutputTooShort e = absurd (omega arith)
-
 -- of whole samples stereo MidSide answers refusal 35 exactly when 30 to 33 pass and some frame's two samples differ in parity
 pub host-parity-exactly : (b : List ℕ) (p : PcmSpec) (lent after : List ℕ) (r : ℕ)
     → p .channels ≡ 2
@@ -175,8 +136,10 @@ host-parity-exactly b p lent after r two whole short e =
     let c = checkEncodeInto p MidSide s (length lent) in
     let inner : checkHostEncode b p 2 (length lent) ≡ c = pass _ _ refl and-then pass _ _ (ap not (eq-eqb (length b % 4) 0 whole)) and-then refl in
     let few : c ≡ Fine → length file < 2 ^ 63 = λ fine. let l = has-room (checkEncode p MidSide s) (length lent) (length file) OutputTooShort fine in omega arith in
-    let q = host-exactly-no c (Wrote (length file)) few ParityDiffers only-35 r (e .0 ∙ ap (λ (k : Checked). result (answered k (Wrote (length file)) .outcome)) inner) in
-    (λ x. parity-so p s two (length lent) (q .0 x), λ x. q .1 (so-parity p s two (length lent) (x .0) (x .1)))
+    let told = e .0 ∙ ap (λ (k : Checked). result (answered k (Wrote (length file)) .outcome)) inner in (
+      λ q. let x = host-number c (Wrote (length file)) few 35 r told q in parity-so p s two (length lent) (x .0) (x .1) (x .2),
+      λ q. told ∙ ap (λ (k : Checked). result (answered k (Wrote (length file)) .outcome)) (so-parity p s two (length lent) (q .0) (q .1)),
+    )
 
 -- ---- 3. LAW ONE: the new file decodes to the samples
 

@@ -134,15 +134,17 @@ of-types : Settings mono
 of-types = (omega arith, omega arith, omega arith)
 
 record Computed : Type 0 where
-  bytes-five : areBytes five ≡ true
-  bytes-two : areBytes two-groups ≡ true
-  bytes-room : areBytes room ≡ true
-  words-5 : areWords (one 5) ≡ true
-  words-6 : areWords (one 6) ≡ true
-  words-7 : areWords (one 7) ≡ true
-  many-0 : areWords (many 0) ≡ true
-  many-1 : areWords (many 1) ≡ true
-  many-2 : areWords (many 2) ≡ true
+  -- these can be given
+  bytes-five : Bytes five
+  bytes-two : Bytes two-groups
+  bytes-room : Bytes room
+  words-5 : Words (one 5)
+  words-6 : Words (one 6)
+  words-7 : Words (one 7)
+  many-0 : Words (many 0)
+  many-1 : Words (many 1)
+  many-2 : Words (many 2)
+  -- and give this
   reads : decodeOf five 1 ≡ read 1
   samples : decodeInto five (one 7) ≡ one 5
   writes : encodeOf mono Auto (one 5) 420 ≡ wrote 272
@@ -161,15 +163,15 @@ computed : Computed
 unfolding document-01
 computed =
     record {
-      bytes-five = refl;
-      bytes-two = refl;
-      bytes-room = refl;
-      words-5 = refl;
-      words-6 = refl;
-      words-7 = refl;
-      many-0 = refl;
-      many-1 = refl;
-      many-2 = refl;
+      bytes-five = by-bytes five refl;
+      bytes-two = by-bytes two-groups refl;
+      bytes-room = by-bytes room refl;
+      words-5 = by-words (one 5) refl;
+      words-6 = by-words (one 6) refl;
+      words-7 = by-words (one 7) refl;
+      many-0 = by-words (many 0) refl;
+      many-1 = by-words (many 1) refl;
+      many-2 = by-words (many 2) refl;
       reads = refl;
       samples = refl;
       writes = refl;
@@ -195,109 +197,81 @@ differ m n d e = never (sym (eq-eqb m n e) ∙ d)
 five-six : _≡_ {A = List ℤ} (one 5) (one 6) → ⊥
 five-six e = differ 5 6 refl (ap (λ (l : List ℤ). natAbs (getD l 0 (pos 0))) e)
 
--- they can be given
-bytes-of-five : Bytes five
-bytes-of-five = by-bytes five (computed .bytes-five)
-
-bytes-of-two : Bytes two-groups
-bytes-of-two = by-bytes two-groups (computed .bytes-two)
-
-bytes-of-room : Bytes room
-bytes-of-room = by-bytes room (computed .bytes-room)
-
-words-5 : Words (one 5)
-words-5 = by-words (one 5) (computed .words-5)
-
-words-6 : Words (one 6)
-words-6 = by-words (one 6) (computed .words-6)
-
-words-7 : Words (one 7)
-words-7 = by-words (one 7) (computed .words-7)
-
-many-0 : Words (many 0)
-many-0 = by-words (many 0) (computed .many-0)
-
-many-1 : Words (many 1)
-many-1 = by-words (many 1) (computed .many-1)
-
-many-2 : Words (many 2)
-many-2 = by-words (many 2) (computed .many-2)
-
 -- ---- a decoder: reading the sample 5 where 7 lies, and two groups of 1 where 0 lies
 module _ (d : Decoder) where
   abbrev read-five : Decodes five (one 7) (d .says five (one 7)) (d .leaves five (one 7))
-  read-five = d .meets five (one 7) bytes-of-five words-7
+  read-five = d .meets five (one 7) (computed .bytes-five) (computed .words-7)
 
   not-refusing : EachDecoding (λ s lent. Refuses (d .says s lent)) → ⊥
-  not-refusing h = succeeds _ (Read (record { 0 = 1 })) refl (read-five .0 ∙ computed .reads) (h five (one 7) bytes-of-five words-7)
+  not-refusing h = succeeds _ (Read (record { 0 = 1 })) refl (read-five .0 ∙ computed .reads) (h five (one 7) (computed .bytes-five) (computed .words-7))
 
   not-idle : EachDecoding (λ s lent. d .leaves s lent ≡ lent) → ⊥
-  not-idle h = differ 5 7 refl (ap (λ (l : List ℤ). natAbs (getD l 0 (pos 0))) (sym (read-five .1 ∙ computed .samples) ∙ h five (one 7) bytes-of-five words-7))
+  not-idle h = differ 5 7 refl (ap (λ (l : List ℤ). natAbs (getD l 0 (pos 0))) (sym (read-five .1 ∙ computed .samples) ∙ h five (one 7) (computed .bytes-five) (computed .words-7)))
 
   not-first : EachDecoding (λ s lent. drop (firstSamples s) (d .leaves s lent) ≡ drop (firstSamples s) lent) → ⊥
   not-first h =
       differ 1 0 refl
       (ap natAbs
-      (sym (computed .last-sample) ∙ ap (λ (l : List ℤ). getD (drop (firstSamples two-groups) l) 0 (pos 9)) (sym (d .meets two-groups (many 0) bytes-of-two many-0 .1))
-      ∙ ap (λ (l : List ℤ). getD l 0 (pos 9)) (h two-groups (many 0) bytes-of-two many-0) ∙ computed .last-lent))
+      (sym (computed .last-sample) ∙ ap (λ (l : List ℤ). getD (drop (firstSamples two-groups) l) 0 (pos 9)) (sym (d .meets two-groups (many 0) (computed .bytes-two) (computed .many-0) .1))
+      ∙ ap (λ (l : List ℤ). getD l 0 (pos 9)) (h two-groups (many 0) (computed .bytes-two) (computed .many-0)) ∙ computed .last-lent))
 
 -- ---- an encoder: writing the sample 5, the sample 6, and two groups, where 0 lies
 module _ (e : Encoder) where
   written : (s : List ℤ) → Words s → Encodes mono Auto s room (e .says mono Auto s room) (e .leaves mono Auto s room)
-  written s w = e .meets mono Auto s room of-types w bytes-of-room
+  written s w = e .meets mono Auto s room of-types w (computed .bytes-room)
 
   encoder-not-refusing : EachEncoding (λ p mode s lent. Refuses (e .says p mode s lent)) → ⊥
-  encoder-not-refusing h = succeeds _ (Wrote 272) refl (written (one 5) words-5 .0 ∙ computed .writes) (h mono Auto (one 5) room of-types words-5 bytes-of-room)
+  encoder-not-refusing h = succeeds _ (Wrote 272) refl (written (one 5) (computed .words-5) .0 ∙ computed .writes) (h mono Auto (one 5) room of-types (computed .words-5) (computed .bytes-room))
 
   -- each file decodes to its own samples
   encoder-not-fixed : (fixed : PcmSpec → StereoMode → ℕ → List ℕ)
       → EachEncoding (λ p mode s lent. (n : ℕ) → e .says p mode s lent ≡ wrote n → take n (e .leaves p mode s lent) ≡ fixed p mode (length s)) → ⊥
   encoder-not-fixed fixed h =
       five-six
-      (sym (file-tells mono Auto (one 5) room _ 272 (sym (computed .writes), written (one 5) words-5 .1) (omega arith))
+      (sym (file-tells mono Auto (one 5) room _ 272 (sym (computed .writes), written (one 5) (computed .words-5) .1) (omega arith))
       ∙ ap decodedOf
-      (h mono Auto (one 5) room of-types words-5 bytes-of-room 272 (written (one 5) words-5 .0 ∙ computed .writes)
-      ∙ sym (h mono Auto (one 6) room of-types words-6 bytes-of-room 272 (written (one 6) words-6 .0 ∙ computed .writes-other)))
-      ∙ file-tells mono Auto (one 6) room _ 272 (sym (computed .writes-other), written (one 6) words-6 .1) (omega arith))
+      (h mono Auto (one 5) room of-types (computed .words-5) (computed .bytes-room) 272 (written (one 5) (computed .words-5) .0 ∙ computed .writes)
+      ∙ sym (h mono Auto (one 6) room of-types (computed .words-6) (computed .bytes-room) 272 (written (one 6) (computed .words-6) .0 ∙ computed .writes-other)))
+      ∙ file-tells mono Auto (one 6) room _ 272 (sym (computed .writes-other), written (one 6) (computed .words-6) .1) (omega arith))
 
   encoder-not-idle : EachEncoding (λ p mode s lent. e .leaves p mode s lent ≡ lent) → ⊥
   encoder-not-idle h =
-      differ 1 0 refl (sym (computed .begins) ∙ ap (λ (l : List ℕ). getD l 0 9) (sym (written (one 5) words-5 .1) ∙ h mono Auto (one 5) room of-types words-5 bytes-of-room))
+      differ 1 0 refl (sym (computed .begins) ∙ ap (λ (l : List ℕ). getD l 0 9) (sym (written (one 5) (computed .words-5) .1) ∙ h mono Auto (one 5) room of-types (computed .words-5) (computed .bytes-room)))
 
   encoder-not-first : EachEncoding (λ p mode s lent. let end = firstBytes (fileOf p mode s) in drop end (e .leaves p mode s lent) ≡ drop end lent) → ⊥
   encoder-not-first h =
       differ 0x16 0 refl
-      (sym (computed .second-mark) ∙ ap (λ (l : List ℕ). getD (drop (firstBytes two-groups) l) 0 9) (sym (written (many 1) many-1 .1))
-      ∙ ap (λ (l : List ℕ). getD l 0 9) (h mono Auto (many 1) room of-types many-1 bytes-of-room) ∙ computed .second-lent)
+      (sym (computed .second-mark) ∙ ap (λ (l : List ℕ). getD (drop (firstBytes two-groups) l) 0 9) (sym (written (many 1) (computed .many-1) .1))
+      ∙ ap (λ (l : List ℕ). getD l 0 9) (h mono Auto (many 1) room of-types (computed .many-1) (computed .bytes-room)) ∙ computed .second-lent)
 
 -- ---- a re-encoder: the same with templates
 module _ (e : Reencoder) where
   rewritten : (s : List ℤ) (t : List ℕ) → Words s → Bytes t → Reencodes mono s t room (e .says mono s t room) (e .leaves mono s t room)
-  rewritten s t w b = e .meets mono s t room of-types w b bytes-of-room
+  rewritten s t w b = e .meets mono s t room of-types w b (computed .bytes-room)
 
   reencoder-not-refusing : EachReencoding (λ p s t lent. Refuses (e .says p s t lent)) → ⊥
-  reencoder-not-refusing h = succeeds _ (Wrote 272) refl (rewritten (one 5) five words-5 bytes-of-five .0 ∙ computed .rewrites) (h mono (one 5) five room of-types words-5 bytes-of-five bytes-of-room)
+  reencoder-not-refusing h = succeeds _ (Wrote 272) refl (rewritten (one 5) five (computed .words-5) (computed .bytes-five) .0 ∙ computed .rewrites) (h mono (one 5) five room of-types (computed .words-5) (computed .bytes-five) (computed .bytes-room))
 
   reencoder-not-fixed : (fixed : PcmSpec → ℕ → List ℕ → List ℕ)
       → EachReencoding (λ p s t lent. (n : ℕ) → e .says p s t lent ≡ wrote n → take n (e .leaves p s t lent) ≡ fixed p (length s) t) → ⊥
   reencoder-not-fixed fixed h =
       five-six
-      (sym (new-tells mono (one 5) five room _ 272 (sym (computed .rewrites), rewritten (one 5) five words-5 bytes-of-five .1))
+      (sym (new-tells mono (one 5) five room _ 272 (sym (computed .rewrites), rewritten (one 5) five (computed .words-5) (computed .bytes-five) .1))
       ∙ ap decodedOf
-      (h mono (one 5) five room of-types words-5 bytes-of-five bytes-of-room 272 (rewritten (one 5) five words-5 bytes-of-five .0 ∙ computed .rewrites)
-      ∙ sym (h mono (one 6) five room of-types words-6 bytes-of-five bytes-of-room 272 (rewritten (one 6) five words-6 bytes-of-five .0 ∙ computed .rewrites-other)))
-      ∙ new-tells mono (one 6) five room _ 272 (sym (computed .rewrites-other), rewritten (one 6) five words-6 bytes-of-five .1))
+      (h mono (one 5) five room of-types (computed .words-5) (computed .bytes-five) (computed .bytes-room) 272 (rewritten (one 5) five (computed .words-5) (computed .bytes-five) .0 ∙ computed .rewrites)
+      ∙ sym (h mono (one 6) five room of-types (computed .words-6) (computed .bytes-five) (computed .bytes-room) 272 (rewritten (one 6) five (computed .words-6) (computed .bytes-five) .0 ∙ computed .rewrites-other)))
+      ∙ new-tells mono (one 6) five room _ 272 (sym (computed .rewrites-other), rewritten (one 6) five (computed .words-6) (computed .bytes-five) .1))
 
   reencoder-not-idle : EachReencoding (λ p s t lent. e .leaves p s t lent ≡ lent) → ⊥
   reencoder-not-idle h =
       differ 1 0 refl
-      (sym (computed .rebegins) ∙ ap (λ (l : List ℕ). getD l 0 9) (sym (rewritten (one 5) five words-5 bytes-of-five .1) ∙ h mono (one 5) five room of-types words-5 bytes-of-five bytes-of-room))
+      (sym (computed .rebegins) ∙ ap (λ (l : List ℕ). getD l 0 9) (sym (rewritten (one 5) five (computed .words-5) (computed .bytes-five) .1) ∙ h mono (one 5) five room of-types (computed .words-5) (computed .bytes-five) (computed .bytes-room)))
 
   reencoder-not-first : EachReencoding (λ p s t lent. drop (firstBytes t) (e .leaves p s t lent) ≡ drop (firstBytes t) lent) → ⊥
   reencoder-not-first h =
       differ 0x16 0 refl
-      (sym (computed .second-again) ∙ ap (λ (l : List ℕ). getD (drop (firstBytes two-groups) l) 0 9) (sym (rewritten (many 2) two-groups many-2 bytes-of-two .1))
-      ∙ ap (λ (l : List ℕ). getD l 0 9) (h mono (many 2) two-groups room of-types many-2 bytes-of-two bytes-of-room) ∙ computed .second-lent)
+      (sym (computed .second-again) ∙ ap (λ (l : List ℕ). getD (drop (firstBytes two-groups) l) 0 9) (sym (rewritten (many 2) two-groups (computed .many-2) (computed .bytes-two) .1))
+      ∙ ap (λ (l : List ℕ). getD l 0 9) (h mono (many 2) two-groups room of-types (computed .many-2) (computed .bytes-two) (computed .bytes-room)) ∙ computed .second-lent)
 
 pub impostors-fall : Fall
 impostors-fall =

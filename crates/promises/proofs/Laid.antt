@@ -11,17 +11,16 @@ use lib.IntN.{ℤ}
 use Rattle.format.specs.Lists.{joined, from}
 use Rattle.format.specs.Header.{isSignature, fieldsOf, groupsOf, entry, group}
 use Rattle.format.specs.Blocks.{isBlock, floatBit}
-use Rattle.format.specs.Units.{isDepth, depthOf}
+use Rattle.format.specs.Units.{isDepth}
 use Rattle.format.specs.Refusals.{inOrder}
 use Rattle.format.specs.Answers.{answeredBy, answered}
-use Rattle.format.specs.Opening.{badEntry, checkFields, checkOffsets, checkTable, checkFirst, formatOf, checkOpen, headerOf, openOf}
+use Rattle.format.specs.Opening.{badEntry, checkFields, checkOffsets, checkTable, checkFirst, formatOf, checkOpen, headerFor, headerOf, openOf}
 use Rattle.format.specs.Decoding.{checkGroup, groupSamples, checkDecode, decodedOf}
 use Rattle.format.specs.declared.refusals.Checked.{Checked}
 use Rattle.format.specs.declared.refusals.Checked.the-variants.{Fine}
 use Rattle.format.specs.declared.settings.SampleFormat.the-variants.{Pcm, Float}
 use Rattle.format.specs.declared.settings.SampleFormat.{SampleFormat}
 use Rattle.format.specs.declared.answers.Fields.{Fields}
-use Rattle.format.specs.declared.answers.Header.{Header}
 use Rattle.format.specs.declared.answers.Outcome.the-variants.{Opened}
 use Rattle.laws.proofs.Tests.{and-no}
 use Rattle.laws.proofs.Parts.{around, part-at, length-mono, joined-cong, one-more}
@@ -39,21 +38,6 @@ pub record Layout (s : List ℕ) (h : Fields) (part : ℕ → List ℕ) : Type 0
   pub groups : (g : ℕ) → g < groupsOf (h .frames) → group s h g ≡ part g
   pub after : List ℕ
   pub data-is : drop (h .start) s ≡ joined part (groupsOf (h .frames)) ++ after
-
--- what opening says of such numbers
-abbrev pub headerFor : Fields → SampleFormat → Header
-headerFor h f =
-    record {
-      channels = h .channels;
-      depth = depthOf (h .depth);
-      rate = h .rate;
-      frames = record { 0 = h .frames };
-      table = h .table;
-      start = h .start;
-      size = h .size;
-      groups = groupsOf (h .frames);
-      format = f;
-    }
 
 -- what lies between two entries is a part
 pub between : (P : ℕ → List ℕ) (g n start e0 e1 : ℕ) (a c : List ℕ) → g < n → length a ≡ start → e0 ≡ length (joined P g) → e1 ≡ length (joined P (g + 1))

@@ -154,16 +154,9 @@ module _ (c : Checked) (o : Outcome) where
       by Fine few l = let q = few refl in absurd (omega arith)
       by (No r) few l = (r, refl)
 
-  -- where only x has its number, that number is told exactly when the checks refuse by x
-  pub host-exactly-no : (c ≡ Fine → result o < 2 ^ 63) → (x : Refusal) → ((y : Refusal) → number y ≡ number x → y ≡ x) → (r : ℕ) → r ≡ result (answered c o .outcome)
-      → Exactly (r ≡ 2 ^ 63 + number x) (c ≡ No x)
-  host-exactly-no few x only r e = (refuses, told (No x))
-    where
-      told : (k : Checked) → c ≡ k → r ≡ result (answered k o .outcome)
-      told k q = e ∙ ap (λ (k : Checked). result (answered k o .outcome)) q
-
-      refuses : r ≡ 2 ^ 63 + number x → c ≡ No x
-      refuses q =
-          let y = host-refused few (omega arith) in
-          let t : r ≡ 2 ^ 63 + number (y .0) = told (No (y .0)) (y .1) in
-          y .1 ∙ ap No (only (y .0) (omega arith))
+  -- the number says by which the checks refuse
+  pub host-number : (c ≡ Fine → result o < 2 ^ 63) → (n r : ℕ) → r ≡ result (answered c o .outcome) → r ≡ 2 ^ 63 + n → (x : Refusal) × (number x ≡ n) × (c ≡ No x)
+  host-number few n r e q =
+      let x = host-refused few (omega arith) in
+      let t : r ≡ 2 ^ 63 + number (x .0) = e ∙ ap (λ (k : Checked). result (answered k o .outcome)) (x .1) in
+      (x .0, omega arith, x .1)

@@ -12,7 +12,7 @@ use lib.Dec.{eqb}
 use borrow.Author.Tests.{not-true}
 use Rattle.format.specs.Lists.{from, pairwise, every, anyBelow}
 use Rattle.format.specs.Header.{groupsOf}
-use Rattle.format.specs.Refusals.{refuse, _then_}
+use Rattle.format.specs.Refusals.{number, refuse, _then_}
 use Rattle.format.specs.Decoding.{active}
 use Rattle.format.specs.Encoding.{equalParity, parity, plain, groupIn, checkSpec, checkEncoder, checkSamples, isMidSide, checkStereo, checkSize, checkEncode, checkEncodeInto}
 use Rattle.format.specs.declared.settings.PcmSpec.{PcmSpec}
@@ -20,7 +20,8 @@ use Rattle.format.specs.declared.settings.StereoMode.{StereoMode}
 use Rattle.format.specs.declared.settings.StereoMode.the-variants.{MidSide}
 use Rattle.format.specs.declared.refusals.Checked.{Checked}
 use Rattle.format.specs.declared.refusals.Checked.the-variants.{Fine, No}
-use Rattle.format.specs.declared.refusals.Refusal.the-variants.{NotStereo, ParityDiffers}
+use Rattle.format.specs.declared.refusals.Refusal.{Refusal}
+use Rattle.format.specs.declared.refusals.Refusal.the-variants.{NotStereo, ParityDiffers, OutputTooShort}
 use Rattle.laws.proofs.Tests.{never, either}
 use Rattle.laws.proofs.Checks.{_and-then_, first-fine, others-fine, Unsaid, unsaid, _nor_, said-after, said-before, found-below}
 use Rattle.laws.proofs.SampleChecks.{frames-ok}
@@ -148,12 +149,12 @@ module _ (p : PcmSpec) (s : List ℤ) (two : p .channels ≡ 2) (l : length s �
   stereo-is =
       ap (λ (n : ℕ). refuse (not (eqb n 2)) NotStereo then refuse (anyBelow (λ g. not (parity (plain n (groupIn n s g)))) (groupsOf (length s / n))) ParityDiffers) two
 
-  -- where it refuses 35, some frame's samples differ in parity
-  pub refuses-when : checkStereo p MidSide s ≡ No ParityDiffers → Some (oddFrame s) (length s / 2)
+  -- where it refuses, some frame's samples differ in parity
+  pub refuses-when : (x : Refusal) → checkStereo p MidSide s ≡ No x → Some (oddFrame s) (length s / 2)
   unfolding refuse
-  refuses-when e = odd-frame s (length s / 2) l (some-below _ _ (by odd refl (sym stereo-is ∙ e)))
+  refuses-when x e = odd-frame s (length s / 2) l (some-below _ _ (by odd refl (sym stereo-is ∙ e)))
     where
-      by : (b : Bool) → odd ≡ b → refuse b ParityDiffers ≡ No ParityDiffers → odd ≡ true
+      by : (b : Bool) → odd ≡ b → refuse b ParityDiffers ≡ No x → odd ≡ true
       by true q f = q
       by false q f = cc
 
@@ -163,18 +164,24 @@ module _ (p : PcmSpec) (s : List ℤ) (two : p .channels ≡ 2) (l : length s �
   when-refuses o = stereo-is ∙ ap (λ (b : Bool). refuse b ParityDiffers) (below-some _ _ (odd-group s (length s / 2) l o))
 
 -- ---- so does encoding: its other checks do not say 35
+module _ (x : Refusal) (e : number x ≡ 35) where
+  other : (r : Refusal) (b : Bool) → eqb (number r) 35 ≡ false → Unsaid x (refuse b r)
+  other r b differ = unsaid x r b (ap (eqb (number r)) e ∙ differ)
 
-spec-unsaid : (p : PcmSpec) → Unsaid ParityDiffers (checkEncoder p)
-unfolding checkEncoder checkSpec
-spec-unsaid p = unsaid _ _ _ refl nor unsaid _ _ _ refl nor unsaid _ _ _ refl nor unsaid _ _ _ refl
+  spec-unsaid : (p : PcmSpec) → Unsaid x (checkEncoder p)
+  unfolding checkEncoder checkSpec
+  spec-unsaid p = other _ _ refl nor other _ _ refl nor other _ _ refl nor other _ _ refl
 
-samples-unsaid : (p : PcmSpec) (s : List ℤ) → Unsaid ParityDiffers (checkSamples p s)
-unfolding checkSamples
-samples-unsaid p s = unsaid _ _ _ refl nor unsaid _ _ _ refl nor unsaid _ _ _ refl
+  samples-unsaid : (p : PcmSpec) (s : List ℤ) → Unsaid x (checkSamples p s)
+  unfolding checkSamples
+  samples-unsaid p s = other _ _ refl nor other _ _ refl nor other _ _ refl
 
-size-unsaid : (p : PcmSpec) (mode : StereoMode) (s : List ℤ) → Unsaid ParityDiffers (checkSize p mode s)
-unfolding checkSize
-size-unsaid p mode s = unsaid _ _ _ refl
+  size-unsaid : (p : PcmSpec) (mode : StereoMode) (s : List ℤ) → Unsaid x (checkSize p mode s)
+  unfolding checkSize
+  size-unsaid p mode s = other _ _ refl
+
+  room-unsaid : (b : Bool) → Unsaid x (refuse b OutputTooShort)
+  room-unsaid b = other _ _ refl
 
 module _ (p : PcmSpec) (s : List ℤ) (two : p .channels ≡ 2) (room : ℕ) where
   -- 30 to 33
@@ -187,14 +194,14 @@ module _ (p : PcmSpec) (s : List ℤ) (two : p .channels ≡ 2) (room : ℕ) whe
   whole : checkSamples p s ≡ Fine → length s ≡ 2 * (length s / 2)
   whole ok = subst (λ (c : ℕ). length s ≡ c * (length s / c)) two (frames-ok p s ok)
 
-  pub parity-so : checkEncodeInto p MidSide s room ≡ No ParityDiffers → (earlier ≡ Fine) × oddSome
+  pub parity-so : (x : Refusal) → number x ≡ 35 → checkEncodeInto p MidSide s room ≡ No x → (earlier ≡ Fine) × oddSome
   unfolding checkEncodeInto checkEncode
-  parity-so e =
-      let a = said-before ParityDiffers _ _ (unsaid _ _ _ refl) e in
-      let b = said-after ParityDiffers _ _ (spec-unsaid p) a in
-      let c = said-after ParityDiffers _ _ (samples-unsaid p s) (b .1) in
-      let d = said-before ParityDiffers _ _ (size-unsaid p MidSide s) (c .1) in
-      ((b .0) and-then (c .0), refuses-when p s two (whole (c .0)) d)
+  parity-so x e refused =
+      let a = said-before x _ _ (room-unsaid x e _) refused in
+      let b = said-after x _ _ (spec-unsaid x e p) a in
+      let c = said-after x _ _ (samples-unsaid x e p s) (b .1) in
+      let d = said-before x _ _ (size-unsaid x e p MidSide s) (c .1) in
+      ((b .0) and-then (c .0), refuses-when p s two (whole (c .0)) x d)
 
   pub so-parity : earlier ≡ Fine → oddSome → checkEncodeInto p MidSide s room ≡ No ParityDiffers
   unfolding checkEncodeInto checkEncode _then_

@@ -11,7 +11,7 @@ use borrow.Author.Tests.{ltb-false, eqb-true, not-false}
 use Rattle.format.specs.Lists.{anyBelow}
 use Rattle.format.specs.Header.{groupsOf}
 use Rattle.format.specs.Answers.{answeredBy}
-use Rattle.format.specs.Opening.{openOf}
+use Rattle.format.specs.Opening.{headerFor, openOf}
 use Rattle.format.specs.Decoding.{checkDecode, decodedOf}
 use Rattle.format.specs.Encoding.{parity, plain, groupIn, isMidSide, checkEncoder, checkSamples, checkStereo, groupAt, fileOf, checkSize, checkEncode}
 use Rattle.format.specs.declared.refusals.Checked.the-variants.{Fine}
@@ -24,7 +24,7 @@ use Rattle.format.specs.declared.answers.Outcome.the-variants.{Opened}
 use Rattle.laws.proofs.Checks.{first-fine, others-fine, passed, found-below}
 use Rattle.laws.proofs.Channels.{group-length, group-holds, groups-joined}
 use Rattle.promises.proofs.GroupCoding.{Group, group-codes}
-use Rattle.promises.proofs.Laid.{Layout, headerFor, open-says, decode-fine, decode-gives}
+use Rattle.promises.proofs.Laid.{Layout, open-says, decode-fine, decode-gives}
 use Rattle.promises.proofs.FileLaws.{Small, first, total, head, assembled-layout}
 use Rattle.laws.proofs.SampleChecks.{encoder-ok, frames-ok, values-ok, count-ok}
 
