@@ -7,100 +7,35 @@ use mathlib.Core.Bool.{not}
 use mathlib.Core.List.{List}
 use native.Mathlib.Omega.{arith}
 use lib.ListN.{length, take}
-use borrow.Author.Tests.{eq-eqb, eqb-true, not-false}
+use borrow.Author.Tests.{eq-eqb}
 use Rattle.format.specs.Lists.{over}
 use Rattle.format.specs.Numbers.{Below}
 use Rattle.format.specs.Refusals.{_then_}
-use Rattle.format.specs.Answers.{answered, filled, wrote}
+use Rattle.format.specs.Answers.{answered}
 use Rattle.format.specs.Opening.{headerOf, openOf}
-use Rattle.format.specs.Decoding.{checkDecode, decodedOf, decodedCount, checkRoom, decodeOf}
-use Rattle.format.specs.Encoding.{fileOf, checkEncoder, checkSamples, checkEncode, checkEncodeInto, encodeOf, encodeInto}
-use Rattle.format.specs.Reencoding.{checkReencodeInto, refileOf, reencodeOf, reencodeInto}
-use Rattle.format.specs.Boundary.{samplesFrom, sampleBytes, isMode, modeOf, checkMode, checkBytes, result, hostOpen, hostDecode, hostDecodeInto, checkHostEncode, hostEncode, hostEncodeInto, checkHostReencode, hostReencode, hostReencodeInto}
-use Rattle.format.specs.Promises.{Encodes, Reencodes, HostOpens, HostDecodes, HostEncodes, HostReencodes}
+use Rattle.format.specs.Decoding.{checkDecode, decodedOf}
+use Rattle.format.specs.Encoding.{fileOf, checkEncoder, checkSamples, checkEncode, checkEncodeInto}
+use Rattle.format.specs.Reencoding.{refileOf}
+use Rattle.format.specs.Boundary.{samplesFrom, isMode, modeOf, checkMode, checkBytes, result, hostOpen, checkHostEncode, hostEncode}
+use Rattle.format.specs.Promises.{HostOpens, HostDecodes, HostEncodes, HostReencodes}
 use Rattle.format.specs.declared.refusals.Refusal.the-variants.{OutputTooShort}
 use Rattle.format.specs.declared.refusals.Checked.{Checked}
 use Rattle.format.specs.declared.refusals.Checked.the-variants.{Fine}
 use Rattle.format.specs.declared.settings.PcmSpec.{PcmSpec}
 use Rattle.format.specs.declared.settings.StereoMode.the-variants.{MidSide}
-use Rattle.format.specs.declared.answers.Outcome.the-variants.{Opened, Read, Wrote}
-use Rattle.laws.proofs.Checks.{pass, passed, _and-then_, first-fine, others-fine, has-room}
+use Rattle.format.specs.declared.answers.Outcome.the-variants.{Opened, Wrote}
+use Rattle.laws.proofs.Checks.{pass, _and-then_, first-fine, has-room}
 use Rattle.laws.proofs.Lengths.{decode-count}
-use Rattle.laws.proofs.SampleBytes.{sample-bytes-length, samples-back, bytes-back}
-use Rattle.lent.proofs.Laws.{length-lent}
-use Rattle.promises.proofs.Outcomes.{Exactly, written-front, host-decodes-to, host-fine, host-length, host-number}
+use Rattle.laws.proofs.SampleBytes.{samples-back}
+use Rattle.promises.proofs.Outcomes.{Exactly, host-decodes-to, host-number}
 use Rattle.promises.proofs.MidSums.{NoneLeaves}
 use Rattle.promises.proofs.RoundTrip as RoundTrip
 use Rattle.promises.proofs.Refile as Refile
 use Rattle.promises.proofs.Again.{host-says-same, host-leaves-same}
+use Rattle.promises.proofs.HostFiles.{encode-whole, host-encoded, reencode-whole, host-reencoded, host-read, bytes-count, gives-bytes}
 use Rattle.promises.proofs.Files.{encode-ok, file-written, reencode-ok, new-file, template-written}
 use Rattle.promises.proofs.ParityLaws.{Some, oddFrame, parity-so, so-parity}
 use Rattle.promises.proofs.Demands.{Rate32}
-
--- ---- what the host's number tells
-
-whole-samples : (b : List ℕ) → checkBytes b ≡ Fine → length b % 4 ≡ 0
-unfolding checkBytes
-whole-samples b fine = eqb-true (length b % 4) 0 (not-false _ (passed _ _ fine))
-
--- a length is told where nothing was refused: then any checks k that pass answer it too, and leave the same
-told-wrote : (c k : Checked) (m n : ℕ) (w lent file : List ℕ) → n < 2 ^ 63 → n ≡ result (answered c (Wrote m) .outcome) → file ≡ filled c w lent → k ≡ Fine
-    → (wrote n ≡ answered k (Wrote m)) × (file ≡ filled k w lent)
-told-wrote c k m n w lent file short e p fine = (
-  ap wrote (host-length c (Wrote m) n e short) ∙ ap (λ (x : Checked). answered x (Wrote m)) (sym fine),
-  p ∙ ap (λ (x : Checked). filled x w lent) (host-fine c (Wrote m) n e short ∙ sym fine),
-)
-
--- encoding wrote n bytes: so it did of the samples in b
-module _ (b : List ℕ) (p : PcmSpec) (mode : ℕ) (lent : List ℕ) (n : ℕ) (file : List ℕ) (e : HostEncodes b p mode lent n file) (short : n < 2 ^ 63) where
-  encode-rest : (checkBytes b then checkEncodeInto p (modeOf mode) (samplesFrom b) (length lent)) ≡ Fine
-  unfolding hostEncode checkHostEncode
-  encode-rest = others-fine (checkMode mode) _ (host-fine _ _ n (e .0) short)
-
-  encode-whole : length b % 4 ≡ 0
-  encode-whole = whole-samples b (first-fine _ _ encode-rest)
-
-  host-encoded : Encodes p (modeOf mode) (samplesFrom b) lent (wrote n) file
-  unfolding hostEncode hostEncodeInto encodeOf encodeInto
-  host-encoded =
-      let new = fileOf p (modeOf mode) (samplesFrom b) in
-      told-wrote (checkHostEncode b p mode (length lent)) (checkEncodeInto p (modeOf mode) (samplesFrom b) (length lent)) (length new) n new lent file short (e .0) (e .1)
-      (others-fine (checkBytes b) _ encode-rest)
-
--- re-encoding did
-module _ (b : List ℕ) (p : PcmSpec) (t lent : List ℕ) (n : ℕ) (file : List ℕ) (e : HostReencodes b p t lent n file) (short : n < 2 ^ 63) where
-  reencode-rest : (checkBytes b then checkReencodeInto p (samplesFrom b) t (length lent)) ≡ Fine
-  unfolding hostReencode checkHostReencode
-  reencode-rest = host-fine _ _ n (e .0) short
-
-  reencode-whole : length b % 4 ≡ 0
-  reencode-whole = whole-samples b (first-fine _ _ reencode-rest)
-
-  host-reencoded : Reencodes p (samplesFrom b) t lent (wrote n) file
-  unfolding hostReencode hostReencodeInto reencodeOf reencodeInto
-  host-reencoded =
-      told-wrote (checkHostReencode b p t (length lent)) (checkReencodeInto p (samplesFrom b) t (length lent)) (length t) n (refileOf (samplesFrom b) t) lent file short (e .0) (e .1)
-      (others-fine (checkBytes b) _ reencode-rest)
-
--- decoding the file f read n bytes: they are those of its samples
-host-read : (f out after : List ℕ) (n : ℕ) → HostDecodes f out n after → n < 2 ^ 63 → take n after ≡ sampleBytes (decodedOf f)
-unfolding hostDecode hostDecodeInto decodeOf checkRoom
-host-read f out after n d short =
-    let c = checkDecode f then checkRoom f (length out / 4) in
-    let fine = host-fine c (Read (decodedCount f)) n (d .0) short in
-    let count = host-length c (Read (decodedCount f)) n (d .0) short in
-    written-front c n (sampleBytes (decodedOf f)) out after fine (count ∙ ap (λ (k : ℕ). 4 * k) (decode-count f (first-fine _ _ fine)) ∙ sym (sample-bytes-length (decodedOf f))) (d .1)
-
--- a file that decodes to the samples in b, into room for b
-module _ (b : List ℕ) (whole : length b % 4 ≡ 0) where
-  bytes-count : 4 * length (samplesFrom b) ≡ length b
-  bytes-count = omega (arith, length-lent b)
-
-  gives-bytes : (f out after : List ℕ) (r : ℕ) → Below 256 b → checkDecode f ≡ Fine → decodedOf f ≡ samplesFrom b → length b ≤ length out → HostDecodes f out r after
-      → (r ≡ length b) × (after ≡ over b out)
-  gives-bytes f out after r byte fine gives room d =
-      let q = host-decodes-to f (samplesFrom b) out after r fine gives (omega (arith, bytes-count)) d in
-      (q .0 ∙ bytes-count, q .1 ∙ ap (λ (w : List ℕ). over w out) (bytes-back b byte (length b / 4) (omega arith)))
 
 -- ---- 1. THERE AND BACK
 

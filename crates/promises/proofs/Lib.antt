@@ -10,6 +10,7 @@ pub mod Premise
 -- The laws that lead to them: what an outcome tells, what a writer's answer does
 pub mod Outcomes
 pub mod Files
+pub mod HostFiles
 -- what is written is read back: a block, a group, a file; encoding, then decoding
 pub mod BlockLaws
 pub mod GroupLaws
