@@ -154,7 +154,7 @@ fn of_flags(random: &mut Random) -> Vec<Case> {
     lists.iter().map(|(name, channels, flags)| case(*name, with_flags(*channels, flags, random))).collect()
 }
 
-fn with_flags(channels: u16, flags: &[u16], random: &mut Random) -> Vec<u8> {
+pub fn with_flags(channels: u16, flags: &[u16], random: &mut Random) -> Vec<u8> {
     let groups = flags.len() as u32 / u32::from(channels);
     let mut left = flags.iter();
     filled(channels, 512 * groups - 300, || flagged(*left.next().unwrap(), noisy(7, random))).bytes()
@@ -222,7 +222,7 @@ fn of_layout(random: &mut Random) -> Vec<Case> {
 // ---- what is refused
 
 /// A good file with some bytes set: where, how many, to what.
-fn set(good: &File, sets: &[(usize, usize, u64)]) -> Vec<u8> {
+pub fn set(good: &File, sets: &[(usize, usize, u64)]) -> Vec<u8> {
     let mut bytes = good.bytes();
     sets.iter().for_each(|(at, n, value)| put(&mut bytes, *at, *n, *value));
     bytes
@@ -294,10 +294,10 @@ fn of_group_signatures(random: &mut Random) -> Vec<Case> {
     (0..3).map(|group| case(format!("signature of the second block, group {group}"), unsigned(group))).collect()
 }
 
-type Fault = fn(&mut [Block]);
+pub type Fault = fn(&mut [Block]);
 
 /// What is wrong with a group, and with how many channels.
-const FAULTS: &[(&str, u16, Fault)] = &[
+pub const FAULTS: &[(&str, u16, Fault)] = &[
     ("float bit of the second block", 2, |group| group[1].flags ^= 2),
     ("mid/side with one channel", 1, |group| group[0].flags |= 1),
     ("mid/side with three channels", 3, |group| group[0].flags |= 1),

@@ -1,6 +1,7 @@
 //! What the programs must print, from what the Rust answers.
 use crate::asking::{ask, Answer, Question};
 use crate::cases::Case;
+use crate::walks::{steps, Walk};
 
 /// The most bytes that `ncw_open` opens.
 pub const MOST: usize = 65_536;
@@ -12,7 +13,7 @@ pub fn of_case(case: &Case) -> String {
 
 /// What every list begins with: lines that say `changed`, of a room whose sample 2 was changed on purpose.
 pub fn of_spoiled() -> String {
-    format!("spoiled, refused 1, changed\nspoiled, read 1 {}, changed\n", checksum(&[0x5A5A_0000]))
+    format!("spoiled, refused 1, changed\nspoiled, {}, changed\n", read(&[0x5A5A_0000]))
 }
 
 /// The line of samples that are encoded, or re-encoded: what was written, and what reading says of it.
@@ -33,6 +34,20 @@ pub fn of_spoiled_file() -> String {
     format!("spoiled, refused 35, changed\nspoiled, wrote 4 {}, changed\n", checksum(&[0x5A5A_0000]))
 }
 
+/// The line of a walk: each step, the last one asked again, where the walk stands, and whether the whole decode answers so.
+pub fn of_walk(walk: &Walk) -> String {
+    let (groups, end) = steps(walk);
+    let before: String = groups.iter().map(|samples| format!("{}, kept, ", read(samples))).collect();
+    let last = end.as_ref().map_or("done".to_string(), refused);
+    let compared = if last == "refused 50" { "short of room" } else { "as decoded" };
+    format!("{before}{last}, kept, again {last}, kept, at {}, {compared}\n", groups.len())
+}
+
+/// What the list of walks begins with: rooms whose sample 2 was changed on purpose, and walks that are not as the whole decode.
+pub fn of_spoiled_walks() -> String {
+    of_spoiled() + "spoiled, done, changed\n" + &"spoiled, other than decoded\n".repeat(4)
+}
+
 /// The number by which decoding refuses, in the line of a case.
 pub fn decoding_refused(line: &str) -> Option<u32> {
     refusal_in(line, 1)
@@ -41,6 +56,11 @@ pub fn decoding_refused(line: &str) -> Option<u32> {
 /// The number by which encoding refuses, in the line of its samples.
 pub fn encoding_refused(line: &str) -> Option<u32> {
     refusal_in(line, 0)
+}
+
+/// The number by which a walk's last step refuses, in its line.
+pub fn walk_refused(line: &str) -> Option<u32> {
+    refusal_in(line.split("again ").nth(1)?, 0)
 }
 
 fn refusal_in(line: &str, part: usize) -> Option<u32> {
@@ -62,9 +82,13 @@ fn opened(file: &[u8]) -> String {
 fn decoded(file: &[u8], room: usize) -> String {
     match ask(&Question::Decode(file.to_vec())) {
         Answer::Samples(samples) if room < samples.len() => "refused 50".to_string(),
-        Answer::Samples(samples) => format!("read {} {}", samples.len(), checksum(&samples)),
+        Answer::Samples(samples) => read(&samples),
         answer => refused(&answer),
     }
+}
+
+fn read(samples: &[i32]) -> String {
+    format!("read {} {}", samples.len(), checksum(samples))
 }
 
 fn refused(answer: &Answer) -> String {

@@ -21,6 +21,7 @@ mod random;
 #[path = "../definitions/samples.rs"]
 mod samples;
 mod templates;
+mod walks;
 
 use cases::Case;
 use encodings::Encoding;
@@ -28,6 +29,7 @@ use std::collections::BTreeMap;
 use std::fs;
 use std::path::Path;
 use templates::Reencoding;
+use walks::Walk;
 
 /// A program's name, what it reads, and what it must print.
 type Recorded = (&'static str, Vec<u8>, String);
@@ -60,15 +62,23 @@ fn recorded() -> Vec<Recorded> {
     let readings = cases::programs().map(|(program, cases)| reading(program, &cases));
     let writings = encodings::programs().map(|(program, cases)| writing(program, &cases));
     let rewritings = templates::programs().map(|(program, cases)| rewriting(program, &cases));
-    openings.into_iter().chain(readings).chain(writings).chain(rewritings).collect()
+    let walkings = [walking("walk_files", &walks::cases())];
+    openings.into_iter().chain(readings).chain(writings).chain(rewritings).chain(walkings).collect()
 }
 
-/// For each case 4 bytes for its length, 4 for its room, and the file.
+/// 4 bytes for the file's length, 4 for the room, and the file.
+fn with_room(file: &[u8], room: usize) -> Vec<u8> {
+    [words(&[file.len() as u32, room as u32]), file.to_vec()].concat()
+}
+
 fn reading(program: &'static str, cases: &[Case]) -> Recorded {
-    let sizes = |case: &Case| [case.file.len() as u32, case.room as u32].map(u32::to_le_bytes).concat();
-    let input = cases.iter().flat_map(|case| [sizes(case), case.file.clone()].concat()).collect();
-    let text: String = cases.iter().map(lines::of_case).collect();
-    (program, input, format!("{}{text}{} cases\n", lines::of_spoiled(), cases.len()))
+    let case = |case: &Case| (with_room(&case.file, case.room), lines::of_case(case));
+    listed(program, lines::of_spoiled(), cases.iter().map(case))
+}
+
+fn walking(program: &'static str, cases: &[Walk]) -> Recorded {
+    let case = |case: &Walk| (with_room(&case.file, case.room), lines::of_walk(case));
+    listed(program, lines::of_spoiled_walks(), cases.iter().map(case))
 }
 
 /// For each case six numbers of 4 bytes (samples, room, channels, depth, rate, mode) and the samples.
@@ -79,7 +89,7 @@ fn writing(program: &'static str, cases: &[Encoding]) -> Recorded {
         [words(&[case.samples.len() as u32, case.room as u32]), words(&settings), bytes_of(&case.samples)].concat()
     };
     let line = |case: &Encoding| lines::of_answer(&encodings::answer(case), case.room);
-    listed(program, cases.iter().map(|case| (input(case), line(case))))
+    listed(program, lines::of_spoiled_file(), cases.iter().map(|case| (input(case), line(case))))
 }
 
 /// For each case six numbers of 4 bytes (samples, template, room, channels, depth, rate), the samples and the template.
@@ -90,7 +100,7 @@ fn rewriting(program: &'static str, cases: &[Reencoding]) -> Recorded {
         [words(&counts), words(&settings), bytes_of(&case.samples), case.template.clone()].concat()
     };
     let line = |case: &Reencoding| lines::of_answer(&templates::answer(case), case.room);
-    listed(program, cases.iter().map(|case| (input(case), line(case))))
+    listed(program, lines::of_spoiled_file(), cases.iter().map(|case| (input(case), line(case))))
 }
 
 fn words(numbers: &[u32]) -> Vec<u8> {
@@ -101,10 +111,10 @@ fn bytes_of(samples: &[i32]) -> Vec<u8> {
     samples.iter().flat_map(|sample| sample.to_le_bytes()).collect()
 }
 
-/// A list of calls that write: what each is given, and its line.
-fn listed(program: &'static str, cases: impl Iterator<Item = (Vec<u8>, String)>) -> Recorded {
+/// A list of cases: what each is given, and its line.
+fn listed(program: &'static str, spoiled: String, cases: impl Iterator<Item = (Vec<u8>, String)>) -> Recorded {
     let (inputs, text): (Vec<_>, Vec<_>) = cases.unzip();
-    (program, inputs.concat(), format!("{}{}{} cases\n", lines::of_spoiled_file(), text.concat(), text.len()))
+    (program, inputs.concat(), format!("{spoiled}{}{} cases\n", text.concat(), text.len()))
 }
 
 fn opening(program: &'static str, input: Vec<u8>) -> Recorded {
@@ -145,7 +155,7 @@ fn check(programs: &[Recorded], crates: &Path) {
     }
 }
 
-/// Each program's cases, with their number and line; then how often decoding and encoding refuse by each number.
+/// Each program's cases, with their number and line; then how often decoding, encoding and walking refuse by each number.
 fn list() {
     let mut refusals: BTreeMap<u32, usize> = BTreeMap::new();
     let readings = cases::programs().into_iter().flat_map(|(program, cases)| {
@@ -159,7 +169,9 @@ fn list() {
         let line = |case: &Reencoding| lines::of_answer(&templates::answer(case), case.room);
         numbered(program, &cases, |case| (case.name.clone(), line(case), lines::encoding_refused))
     });
-    for (place, (name, line, refused)) in readings.chain(writings).chain(rewritings) {
+    let walkings =
+        numbered("walk_files", &walks::cases(), |case| (case.name.clone(), lines::of_walk(case), lines::walk_refused));
+    for (place, (name, line, refused)) in readings.chain(writings).chain(rewritings).chain(walkings) {
         print!("{place}: {name}: {line}");
         if let Some(number) = refused(&line) {
             *refusals.entry(number).or_insert(0) += 1;

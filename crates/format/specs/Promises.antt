@@ -6,7 +6,7 @@ use lib.ListN.{length}
 use lib.IntN.{ℤ}
 use Rattle.format.specs.Opening.{openOf}
 use Rattle.format.specs.Decoding.{decodeOf, decodeInto}
-use Rattle.format.specs.Walking.{stepOf, stepInto}
+use Rattle.format.specs.Walking.{stepOf, nextOf, stepInto}
 use Rattle.format.specs.Encoding.{encodeOf, encodeInto}
 use Rattle.format.specs.Reencoding.{reencodeOf, reencodeInto}
 use Rattle.format.specs.Boundary.{hostOpen, hostDecode, hostDecodeInto, hostEncode, hostEncodeInto, hostReencode, hostReencodeInto}
@@ -25,6 +25,10 @@ Decodes s lent r after = (r ≡ decodeOf s (length lent)) × (after ≡ decodeIn
 -- group g of it alone
 abbrev pub Steps : List ℕ → ℕ → List ℤ → Answer → List ℤ → Type 0
 Steps s g lent r after = (r ≡ stepOf s g (length lent)) × (after ≡ stepInto s g lent)
+
+-- a step of a walk that stands at group g, which leaves it at `next`
+abbrev pub Advances : List ℕ → ℕ → List ℤ → Answer → List ℤ → ℕ → Type 0
+Advances s g lent r after next = Steps s g lent r after × (next ≡ nextOf s g (length lent))
 
 -- encoding the samples s with the settings p
 abbrev pub Encodes : PcmSpec → StereoMode → List ℤ → List ℕ → Answer → List ℕ → Type 0

@@ -45,16 +45,16 @@ checkWalk s g room = let checks = checkStepInto s g room in checkOpen s then con
 unfoldable pub stepOf : List ℕ → ℕ → ℕ → Answer
 stepOf s g room = answered (checkWalk s g room) (cond (isLeft s g) (Read (stepCount s g)) Finished)
 
--- a refused step doesn't advance
-abbrev pub nextAfter : Outcome → ℕ → ℕ
-nextAfter (Read n) g = g + 1
-nextAfter Finished g = g
-nextAfter (Refused r) g = g
-nextAfter (Opened h) g = g
-nextAfter (Wrote n) g = g
+-- a refused step doesn't advance: how many groups a step goes past that answers so
+abbrev pub groupsPassed : Outcome → ℕ
+groupsPassed (Read n) = 1
+groupsPassed Finished = 0
+groupsPassed (Refused r) = 0
+groupsPassed (Opened h) = 0
+groupsPassed (Wrote n) = 0
 
 unfoldable pub nextOf : List ℕ → ℕ → ℕ → ℕ
-nextOf s g room = nextAfter (stepOf s g room .outcome) g
+nextOf s g room = g + groupsPassed (stepOf s g room .outcome)
 
 -- what the lent samples then hold
 unfoldable pub stepInto : List ℕ → ℕ → List ℤ → List ℤ

@@ -1,3 +1,4 @@
 -- What the proofs share.
 pub mod FirstBlock
 pub mod Ways
+pub mod Groups

@@ -16,7 +16,7 @@ use Rattle.format.specs.declared.refusals.Checked.the-variants.{Fine, No}
 use Rattle.format.specs.declared.answers.Fields.{Fields}
 use Rattle.format.specs.declared.answers.Header.{Header}
 use Rattle.format.specs.declared.answers.Outcome.the-variants.{Opened, Refused}
-use Rattle.laws.proofs.Opened.{data-past, data-within, first-within}
+use Rattle.laws.proofs.Opened.{data-past, data-within, first-within, opened-long}
 
 -- ---- the checks in order
 
@@ -71,6 +71,9 @@ module _ (s : List ℕ) (a : Checked) (checked : a ≡ checkOpen s) where
 
   pub opens : a ≡ Fine → checkOpen s ≡ Fine
   opens t = sym checked ∙ t
+
+  pub fields-there : a ≡ Fine → 32 ≤ length s
+  fields-there t = omega (arith, opened-long s (opens t))
 
   pub opened : a ≡ Fine → (w : Header) → w ≡ headerOf s → record { outcome = Opened w } ≡ openOf s
   unfolding openOf

@@ -12,7 +12,7 @@ use format::SampleFormat;
 ghost use mathlib.Core.Path.{_≡_};
 ghost use Prim.Native.Nat.{_+_, _≤_};
 ghost use lib.ListN.{length};
-ghost use Rattle.format.specs.Header.{fieldsOf, groupsOf};
+ghost use Rattle.format.specs.Header.{fieldsOf, groupsOf, entry};
 ghost use Rattle.format.specs.Opening.{checkFirst, formatOf, checkOpen, headerOf};
 ghost use Rattle.format.specs.Promises.{Opens};
 ghost use Rattle.format.specs.declared.refusals.Checked.the-variants.{Fine};
@@ -69,6 +69,14 @@ pub fn format_of(s: &[u8], h: Fields) -> SampleFormat
     } else {
         SampleFormat::Pcm
     }
+}
+
+// Where group k begins, and where group k - 1 ends.
+pub fn offset_of(file: &[u8], h: Fields, k: u32) -> usize
+    requires { ⌜ (checkOpen (now file) ≡ Fine) × (h ≡ fieldsOf (now file)) × (k ≤ groupsOf (h .frames)) ⌝ }
+    ensures { λ r. ⌜ r ≡ h .start + entry (now (file .entry)) h k ⌝ }
+{
+    h.start as usize + header::entry_at(file, h, k) as usize
 }
 
 fn header_of(s: &[u8]) -> Header

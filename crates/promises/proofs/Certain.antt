@@ -15,7 +15,7 @@ use Rattle.format.specs.Walking.{stepSamples, stepCount, isLeft, checkWalk, ste
 use Rattle.format.specs.Encoding.{fileOf, checkEncode, checkEncodeInto, encodeOf, encodeInto}
 use Rattle.format.specs.Reencoding.{refileOf, checkReencode, checkReencodeInto, reencodeOf, reencodeInto}
 use Rattle.format.specs.Boundary.{samplesFrom, sampleBytes, modeOf, checkMode, checkBytes, result, hostDecode, hostDecodeInto, checkHostEncode, hostEncode, hostEncodeInto, checkHostReencode, hostReencode, hostReencodeInto}
-use Rattle.format.specs.Promises.{Opens, Decodes, Steps, Encodes, Reencodes, HostOpens, HostDecodes, HostEncodes, HostReencodes}
+use Rattle.format.specs.Promises.{Opens, Decodes, Steps, Advances, Encodes, Reencodes, HostOpens, HostDecodes, HostEncodes, HostReencodes}
 use Rattle.format.specs.declared.units.Samples.{Samples}
 use Rattle.format.specs.declared.refusals.Refusal.{Refusal}
 use Rattle.format.specs.declared.refusals.Refusal.the-variants.{OutputTooShort}
@@ -31,6 +31,7 @@ use Rattle.lent.specs.declared.Container.{Container}
 use Rattle.lent.proofs.Outcome.{one-outcome}
 use Rattle.laws.proofs.Checks.{others-fine, has-room}
 use Rattle.promises.proofs.Outcomes.{Exactly, isRefused, exactly-no, no-keeps, refused-keeps, host-refused}
+use Rattle.promises.proofs.WalkLaws.{step-moves}
 
 -- ---- each refusal has its exact condition: what the checks say, which stand in document 01's order
 
@@ -90,6 +91,9 @@ pub record OneOutcome : Type 1 where
   pub host-opens : (s : List ℕ) (r r′ : ℕ) → HostOpens s r → HostOpens s r′ → r ≡ r′
   pub decodes : (s : List ℕ) (lent : List ℤ) → One (Decodes s lent)
   pub steps : (s : List ℕ) (g : ℕ) (lent : List ℤ) → One (Steps s g lent)
+  -- and in the next group's number
+  pub advances : (s : List ℕ) (g : ℕ) (lent : List ℤ) (r r′ : Answer) (after after′ : List ℤ) (next next′ : ℕ)
+      → Advances s g lent r after next → Advances s g lent r′ after′ next′ → (r ≡ r′) × (after ≡ after′) × (next ≡ next′)
   pub encodes : (p : PcmSpec) (mode : StereoMode) (s : List ℤ) (lent : List ℕ) → One (Encodes p mode s lent)
   pub reencodes : (p : PcmSpec) (s : List ℤ) (t lent : List ℕ) → One (Reencodes p s t lent)
   pub host-decodes : (s lent : List ℕ) → One (HostDecodes s lent)
@@ -107,6 +111,7 @@ one-outcome-each =
       host-opens = λ s r r′ p q. p ∙ sym q;
       decodes = λ s lent. equations _ _;
       steps = λ s g lent. equations _ _;
+      advances = λ s g lent r r′ after after′ next next′ p q. (p .0 .0 ∙ sym (q .0 .0), p .0 .1 ∙ sym (q .0 .1), p .1 ∙ sym (q .1));
       encodes = λ p mode s lent. equations _ _;
       reencodes = λ p s t lent. equations _ _;
       host-decodes = λ s lent. equations _ _;
@@ -133,6 +138,8 @@ HostKeeps P lent = length lent < 2 ^ 63 → (r : ℕ) (after : List ℕ) → 2 ^
 pub record RefusalsKeep : Type 0 where
   pub decodes : (s : List ℕ) (lent : List ℤ) → Keeps (Decodes s lent) lent
   pub steps : (s : List ℕ) (g : ℕ) (lent : List ℤ) → Keeps (Steps s g lent) lent
+  -- and the walk stays where it is
+  pub advances : (s : List ℕ) (g : ℕ) (lent after : List ℤ) (x : Refusal) (next : ℕ) → Advances s g lent (refusedBy x) after next → (after ≡ lent) × (next ≡ g)
   pub encodes : (p : PcmSpec) (mode : StereoMode) (s : List ℤ) (lent : List ℕ) → Keeps (Encodes p mode s lent) lent
   pub reencodes : (p : PcmSpec) (s : List ℤ) (t lent : List ℕ) → Keeps (Reencodes p s t lent) lent
   pub host-decodes : (s lent : List ℕ) → HostKeeps (HostDecodes s lent) lent
@@ -196,6 +203,7 @@ refusals-keep =
     record {
       decodes = decode-keeps;
       steps = step-keeps;
+      advances = λ s g lent after x next d. let e = step-moves s g lent after (refusedBy x) next d in (step-keeps s g lent x after (d .0), omega arith);
       encodes = encode-keeps;
       reencodes = reencode-keeps;
       host-decodes = host-decode-keeps;

@@ -3,6 +3,7 @@ pub mod Demands
 pub mod Hosts
 pub mod Certain
 pub mod Contents
+pub mod Walks
 pub mod Impostors
 -- what law three asks of a template, and why
 pub mod MidSums

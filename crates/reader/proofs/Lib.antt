@@ -1,3 +1,2 @@
-pub mod Groups
 pub mod Written
 pub mod Ways

@@ -1,21 +1,17 @@
 -- What decoding answers at each way out, from what the calls' contracts and the matches give.
-use Prim.Native.Nat.{ℕ, _+_, _-_, _*_, _≤_, _<_}
+use Prim.Native.Nat.{ℕ, _-_, _*_, _≤_, _<_}
 use mathlib.Core.Path.{_≡_, refl, sym, ap, _∙_}
-use mathlib.Core.Bool.{Bool, true, false, cond}
 use mathlib.Core.List.{List}
-use native.Mathlib.Nat.{zero-mul, zero-add}
 use native.Mathlib.Omega.{arith}
-use lib.ListN.{length, take, drop}
+use lib.ListN.{length}
 use lib.IntN.{ℤ}
-use lib.Dec.{ltb}
-use borrow.Author.Tests.{lt-ltb, le-ltb, ltb-false}
+use borrow.Author.Tests.{lt-ltb, le-ltb}
 use Rattle.format.specs.Lists.{over}
-use Rattle.format.specs.Header.{fieldsOf, groupsOf, entry, group}
+use Rattle.format.specs.Header.{fieldsOf, groupsOf, group}
 use Rattle.format.specs.Refusals.{refuse, inOrder, _then_}
 use Rattle.format.specs.Opening.{formatOf, checkOpen}
-use Rattle.format.specs.Decoding.{checkGroup, channelsOf, woven, active, groupSamples, checkDecode, decodedOf, checkRoom, decodeOf, decodeInto}
+use Rattle.format.specs.Decoding.{checkGroup, checkDecode, decodedOf, checkRoom, decodeOf, decodeInto}
 use Rattle.format.specs.Units.{samplesIn}
-use Rattle.format.specs.Walking.{checkStep, stepSamples, stepCount, isLeft, checkStepInto, checkWalk, stepOf, stepInto}
 use Rattle.format.specs.declared.refusals.Refusal.{Refusal}
 use Rattle.format.specs.declared.refusals.Refusal.the-variants.{OutputTooShort}
 use Rattle.format.specs.declared.refusals.Checked.{Checked}
@@ -23,14 +19,9 @@ use Rattle.format.specs.declared.refusals.Checked.the-variants.{Fine, No}
 use Rattle.format.specs.declared.settings.SampleFormat.{SampleFormat}
 use Rattle.format.specs.declared.units.Samples.{Samples}
 use Rattle.format.specs.declared.answers.Fields.{Fields}
-use Rattle.format.specs.declared.answers.Outcome.the-variants.{Read, Finished, Refused}
-use Rattle.laws.proofs.Checks.{passed, first-fine, others-fine}
+use Rattle.format.specs.declared.answers.Outcome.the-variants.{Read, Refused}
+use Rattle.laws.proofs.Checks.{first-fine}
 use Rattle.laws.proofs.Opened.{opened-long}
-use Rattle.lent.specs.Lent.{placed, wovenFrom}
-use Rattle.lent.proofs.Weave.{woven-from}
-use Rattle.group.specs.Readable.{Readable}
-use Rattle.reader.proofs.Groups.{channels-some, depth-8, depth-32, part-rises, part-within, part-is, part-checked}
-use Rattle.reader.proofs.Written.{placed-front}
 
 -- ---- the checks
 module _ (s : List ℕ) (a : Checked) (says : a ≡ checkOpen s) where
@@ -39,9 +30,6 @@ module _ (s : List ℕ) (a : Checked) (says : a ≡ checkOpen s) where
   check-refused r t = rw (← says, t)
 
   module _ (fine : a ≡ Fine) where
-    pub fields-there : 32 ≤ length s
-    fields-there = omega (arith, opened-long s (sym says ∙ fine))
-
     pub check-rest :
         (h : Fields) (f : SampleFormat) (k : Checked) → h ≡ fieldsOf s → f ≡ formatOf s h
         → k ≡ inOrder (λ g. checkGroup h f (group s h g)) (groupsOf (h .frames)) → k ≡ checkDecode s
@@ -102,142 +90,3 @@ module _ (s : List ℕ) (k : Checked) (says : k ≡ checkDecode s) where
         pub puts-all : n .0 ≤ c → (after : List ℤ) → after ≡ over (decodedOf s) out → after ≡ decodeInto s out
         unfolding decodeInto _then_
         puts-all l after e = rw (← says, fine, some-room (length out) lent l) e
-
--- ---- a group that is left, or not
-module _ (s : List ℕ) (g : ℕ) (h : Fields) (reads : h ≡ fieldsOf s) where
-  module _ (groups : ℕ) (all : groups ≡ groupsOf (h .frames)) where
-    last : groups ≡ groupsOf (fieldsOf s .frames)
-    last = all ∙ ap (λ (x : Fields). groupsOf (x .frames)) reads
-
-    none-left : groups ≤ g → isLeft s g ≡ false
-    unfolding isLeft
-    none-left l = le-ltb g (groupsOf (fieldsOf s .frames)) (omega (arith, last))
-
-    one-left : g < groups → isLeft s g ≡ true
-    unfolding isLeft
-    one-left l = lt-ltb g (groupsOf (fieldsOf s .frames)) (omega (arith, last))
-
-  in-step : (n : ℕ) (m : Samples) → n ≡ active (h .frames) g → m ≡ samplesIn (record { 0 = n }) (h .channels) → m ≡ stepCount s g
-  in-step n m count counts = counts ∙ rw (count, reads) refl
-
--- ---- a step's checks
-module _ (s : List ℕ) (g room : ℕ) (a : Checked) (says : a ≡ checkOpen s) where
-  pub walk-closed : (r : Refusal) → a ≡ No r → No r ≡ checkWalk s g room
-  unfolding checkWalk _then_
-  walk-closed r t = rw (← says, t)
-
-  module _ (fine : a ≡ Fine) (h : Fields) (reads : h ≡ fieldsOf s) (groups : ℕ) (all : groups ≡ groupsOf (h .frames)) where
-    pub walk-depth : h .depth ≤ 32
-    walk-depth = depth-32 s h (sym says ∙ fine) reads
-
-    pub walk-done : groups ≤ g → Fine ≡ checkWalk s g room
-    unfolding checkWalk _then_
-    walk-done l = rw (← says, fine, none-left s g h reads groups all l)
-
-    module _ (below : g < groups) (p e : ℕ) (starts : p ≡ h .start + entry s h g) (ends : e ≡ h .start + entry s h (g + 1)) where
-      pub walk-rises : p ≤ e
-      walk-rises = part-rises s h (sym says ∙ fine) reads groups g p e all below starts ends
-
-      pub walk-within : e ≤ length s
-      walk-within = part-within s h (sym says ∙ fine) reads groups g p e all below starts ends
-
-      module _ (f : SampleFormat) (format : f ≡ formatOf s h) (k : Checked) (checked : k ≡ checkGroup h f (take (e - p) (drop p s))) where
-        checks : checkStep s g ≡ k
-        unfolding checkStep
-        checks = rw (← reads, ← format) (part-checked s h (sym says ∙ fine) reads groups g p e all below starts ends f k k checked refl)
-
-        into : (c : Checked) → checkStepInto s g room ≡ c → checkWalk s g room ≡ c
-        unfolding checkWalk _then_
-        into c t = rw (← says, fine, one-left s g h reads groups all below) t
-
-        pub walk-refused : (r : Refusal) → k ≡ No r → No r ≡ checkWalk s g room
-        unfolding checkStepInto _then_
-        walk-refused r t = sym (into (No r) (rw (checks, t)))
-
-        module _ (good : k ≡ Fine) (n : ℕ) (m : Samples) (count : n ≡ active (h .frames) g) (counts : m ≡ samplesIn (record { 0 = n }) (h .channels)) where
-          fits : (b : Bool) → ltb room (m .0) ≡ b → checkStepInto s g room ≡ refuse b OutputTooShort
-          unfolding checkStepInto _then_
-          fits b t = rw (checks, good) (ap (λ (x : Bool). refuse x OutputTooShort) (ap (λ (x : Samples). ltb room (x .0)) (sym (in-step s g h reads n m count counts)) ∙ t))
-
-          pub walk-short : room < m .0 → No OutputTooShort ≡ checkWalk s g room
-          unfolding refuse
-          walk-short l = sym (into (No OutputTooShort) (fits true (lt-ltb room (m .0) l)))
-
-          pub walk-fine : m .0 ≤ room → Fine ≡ checkWalk s g room
-          unfolding refuse
-          walk-fine l = sym (into Fine (fits false (le-ltb room (m .0) l)))
-
--- ---- and its answer
-module _ (s : List ℕ) (g c : ℕ) (k : Checked) (says : k ≡ checkWalk s g c) where
-  pub step-refused : (room : ℕ) → c ≡ room → (r : Refusal) → k ≡ No r → record { outcome = Refused r } ≡ stepOf s g room
-  unfolding stepOf
-  step-refused room lent r t = rw (← lent, ← says, t)
-
-  pub step-keeps : (out : List ℤ) → c ≡ length out → (r : Refusal) → k ≡ No r → out ≡ stepInto s g out
-  unfolding stepInto
-  step-keeps out e r t = rw (← e, ← says, t)
-
-  module _ (fine : k ≡ Fine) where
-    pub step-opens : checkOpen s ≡ Fine
-    unfolding checkWalk
-    step-opens = first-fine _ _ (sym says ∙ fine)
-
-    pub step-fields : 32 ≤ length s
-    step-fields = omega (arith, opened-long s step-opens)
-
-    module _ (h : Fields) (reads : h ≡ fieldsOf s) (groups : ℕ) (all : groups ≡ groupsOf (h .frames)) where
-      pub step-done : (room : ℕ) → c ≡ room → groups ≤ g → record { outcome = Finished } ≡ stepOf s g room
-      unfolding stepOf
-      step-done room lent l = rw (← lent, ← says, fine, none-left s g h reads groups all l)
-
-      pub done-keeps : (out : List ℤ) → c ≡ length out → groups ≤ g → out ≡ stepInto s g out
-      unfolding stepInto over
-      done-keeps out e l = rw (← e, ← says, fine, none-left s g h reads groups all l) refl
-
-      module _ (below : g < groups) where
-        checks-fine : checkStepInto s g c ≡ Fine
-        unfolding checkWalk
-        checks-fine =
-            let e = others-fine (checkOpen s) _ (sym says ∙ fine) in
-            ap (λ (b : Bool). cond b (checkStepInto s g c) Fine) (sym (one-left s g h reads groups all below)) ∙ e
-
-        module _ (p e : ℕ) (starts : p ≡ h .start + entry s h g) (ends : e ≡ h .start + entry s h (g + 1)) where
-          is-group : take (e - p) (drop p s) ≡ group s h g
-          is-group = part-is s h step-opens reads groups g p e all below starts ends
-
-          pub step-rises : p ≤ e
-          step-rises = part-rises s h step-opens reads groups g p e all below starts ends
-
-          pub step-within : e ≤ length s
-          step-within = part-within s h step-opens reads groups g p e all below starts ends
-
-          pub step-readable : (f : SampleFormat) → f ≡ formatOf s h → Readable h f (take (e - p) (drop p s))
-          unfolding checkStepInto checkStep
-          step-readable f format = record {
-            some = channels-some s h step-opens reads;
-            least = omega (arith, depth-8 s h step-opens reads);
-            most = depth-32 s h step-opens reads;
-            fine = ap (checkGroup h f) is-group ∙ rw (format, reads) (first-fine _ _ checks-fine);
-          }
-
-        module _ (n : ℕ) (count : n ≡ active (h .frames) g) where
-          pub step-room : (room : ℕ) → c ≡ room → (0 + n) * h .channels ≤ room
-          unfolding checkStepInto
-          step-room room lent =
-              let e = ltb-false c (stepCount s g .0) (passed _ _ (others-fine (checkStep s g) _ checks-fine)) in
-              omega (arith, ap (λ (x : Samples). x .0) (in-step s g h reads n (samplesIn (record { 0 = n }) (h .channels)) count refl), zero-add n)
-
-          pub step-reads : (room : ℕ) → c ≡ room → (m : Samples) → m ≡ samplesIn (record { 0 = n }) (h .channels) → record { outcome = Read m } ≡ stepOf s g room
-          unfolding stepOf
-          step-reads room lent m counts = rw (← lent, ← says, fine, one-left s g h reads groups all below) (ap (λ (x : Samples). record { outcome = Read x }) (in-step s g h reads n m count counts))
-
-          pub puts-group :
-              (p e : ℕ) → p ≡ h .start + entry s h g → e ≡ h .start + entry s h (g + 1) → (f : SampleFormat) → f ≡ formatOf s h → (out after : List ℤ) → c ≡ length out
-              → after ≡ placed (0 * h .channels) (wovenFrom 0 n (channelsOf h f (take (e - p) (drop p s)))) out → after ≡ stepInto s g out
-          unfolding stepInto stepSamples groupSamples
-          puts-group p e starts ends f format out after lent put = rw (← lent, ← says, fine, one-left s g h reads groups all below)
-              (put ∙ ap (λ (i : ℕ). placed i xs out) (zero-mul (h .channels)) ∙ placed-front xs out
-              ∙ ap (λ (ys : List ℤ). over ys out) (sym (woven-from n (channelsOf h f (take (e - p) (drop p s)))) ∙ ap (λ (b : List ℕ). woven n (channelsOf h f b)) (is-group p e starts ends) ∙ rw (count, format, reads) refl))
-            where
-              xs : List ℤ
-              xs = wovenFrom 0 n (channelsOf h f (take (e - p) (drop p s)))

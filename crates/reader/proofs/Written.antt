@@ -2,7 +2,7 @@
 use Prim.Native.Nat.{ℕ, _+_, _-_, _*_, _≤_, _<_, min}
 use mathlib.Core.Path.{_≡_, refl, sym, ap, ap₂, _∙_}
 use mathlib.Core.List.{List, _++_, append-assoc}
-use native.Mathlib.Nat.{mul-comm, mul-le-mul-right, zero-add}
+use native.Mathlib.Nat.{mul-comm, mul-le-mul-right}
 use native.Mathlib.Omega.{arith}
 use native.Mathlib.Numerals.{add-one}
 use lib.IntN.{ℤ}
@@ -21,16 +21,12 @@ use Rattle.laws.proofs.Lengths.{group-writes, active-sum}
 use Rattle.lent.specs.Lent.{placed, wovenFrom}
 use Rattle.lent.proofs.Weave.{woven-from}
 use Rattle.group.specs.Readable.{Readable}
-use Rattle.reader.proofs.Groups.{channels-some, depth-8, depth-32, part-rises, part-within, part-is}
+use Rattle.opening.proofs.Groups.{channels-some, depth-8, depth-32, part-rises, part-within, part-is}
 
 -- ---- lists put one behind the other
 pub placed-over : (xs ys s : List ℤ) → placed (length xs) ys (over xs s) ≡ over (xs ++ ys) s
 unfolding placed over
 placed-over xs ys s = rw (take-append-seam, drop-append-add, drop-drop, length-append) (sym (append-assoc xs ys (drop (length xs + length ys) s)))
-
-pub placed-front : (xs s : List ℤ) → placed 0 xs s ≡ over xs s
-unfolding placed over
-placed-front xs s = rw zero-add refl
 
 -- ---- the samples of group g, and of the groups before it
 abbrev pub part : List ℕ → Fields → SampleFormat → ℕ → List ℤ

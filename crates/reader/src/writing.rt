@@ -1,5 +1,4 @@
 // The samples of a file whose checks have passed.
-use crate::checking::offset_of;
 use format::Depth;
 use format::Fields;
 use format::SampleFormat;
@@ -30,8 +29,8 @@ pub fn write_groups(
     let groups = header::groups_of(h.frames);
     let mut g: u32 = 0;
     while g < groups {
-        let a = offset_of(file, h, g);
-        let e = offset_of(file, h, g + 1);
+        let a = opening::offset_of(file, h, g);
+        let e = opening::offset_of(file, h, g + 1);
         let first = Depth::SAMPLES_PER_BLOCK * g as usize;
         let n = group::active(h.frames, g);
         group::write_group(which, words, bytes, &file[a..e], h, format, first, 0, n);

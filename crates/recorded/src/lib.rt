@@ -5,6 +5,7 @@ mod writing;
 
 pub enum List {
     Files,
+    Walks,
     Samples,
     Templates,
 }
@@ -12,6 +13,7 @@ pub enum List {
 fn print_spoiled_rooms(list: List) {
     match list {
         List::Files => reading::print_spoiled_rooms(),
+        List::Walks => reading::print_spoiled_walks(),
         List::Samples => writing::print_spoiled_rooms(),
         List::Templates => writing::print_spoiled_rooms(),
     }
@@ -20,7 +22,8 @@ fn print_spoiled_rooms(list: List) {
 // Whether there was one more case.
 fn next_case(list: List) -> bool {
     match list {
-        List::Files => reading::next_case(),
+        List::Files => reading::next_case(list),
+        List::Walks => reading::next_case(list),
         List::Samples => writing::next_case(),
         List::Templates => rewriting::next_case(),
     }

@@ -64,8 +64,8 @@ fn print_refused(r: Refusal, which: Container, words: &[i32], bytes: &[u8]) {
     print_kept(which, words, bytes, 0);
 }
 
-pub fn print_decoded(answer: Answer, room: &[i32]) {
-    print(b", ");
+// What decoding, or one step of a walk, answered.
+pub fn print_read(answer: Answer, room: &[i32]) {
     let outcome = answer.outcome;
     match outcome {
         Outcome::Read(samples) => {
@@ -73,9 +73,18 @@ pub fn print_decoded(answer: Answer, room: &[i32]) {
             print_field(samples.0);
             print_done(Container::Words, room, &[], samples.0 as usize);
         }
+        Outcome::Finished => {
+            print(b"done");
+            print_kept(Container::Words, room, &[], 0);
+        }
         Outcome::Refused(r) => print_refused(r, Container::Words, room, &[]),
         _ => print(b"no answer"),
     }
+}
+
+pub fn print_decoded(answer: Answer, room: &[i32]) {
+    print(b", ");
+    print_read(answer, room);
     print(b"\n");
 }
 

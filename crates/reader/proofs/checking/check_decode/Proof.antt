@@ -1,6 +1,6 @@
 use borrow.Author.Needs.{needs}
-use Rattle.opening.proofs.Ways.{opens}
-use Rattle.reader.proofs.Ways.{check-refused, fields-there, check-rest}
+use Rattle.opening.proofs.Ways.{opens, fields-there}
+use Rattle.reader.proofs.Ways.{check-refused, check-rest}
 use Rattle.reader.proofs.checking.check_decode.Statement.{statement}
 use Rattle.reader.proofs.checking.check_decode.Tie as tie
 

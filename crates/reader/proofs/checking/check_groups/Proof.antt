@@ -7,7 +7,7 @@ use Rattle.format.specs.Refusals.{inOrder}
 use Rattle.format.specs.Decoding.{checkGroup}
 use Rattle.format.specs.declared.refusals.Checked.the-variants.{Fine}
 use Rattle.laws.proofs.Reading.{order-more, order-none, order-ends, order-whole}
-use Rattle.reader.proofs.Groups.{depth-32, part-rises, part-within, part-checked}
+use Rattle.opening.proofs.Groups.{depth-32, part-rises, part-within, part-checked}
 use Rattle.reader.proofs.checking.check_groups.Statement.{statement}
 use Rattle.reader.proofs.checking.check_groups.Tie as tie
 

@@ -1,8 +1,8 @@
 use borrow.Author.Needs.{needs}
-use Rattle.opening.proofs.Ways.{opens}
-use Rattle.reader.proofs.Ways.{fields-there, walk-closed, walk-done, walk-depth, walk-rises, walk-within, walk-refused, walk-short, walk-fine}
-use Rattle.reader.proofs.checking.check_walk.Statement.{statement}
-use Rattle.reader.proofs.checking.check_walk.Tie as tie
+use Rattle.opening.proofs.Ways.{opens, fields-there}
+use Rattle.walk.proofs.Ways.{walk-closed, walk-done, walk-depth, walk-rises, walk-within, walk-refused, walk-short, walk-fine}
+use Rattle.walk.proofs.checking.check_walk.Statement.{statement}
+use Rattle.walk.proofs.checking.check_walk.Tie as tie
 
 returns : tie.Need-returns
 returns c = search walk-closed

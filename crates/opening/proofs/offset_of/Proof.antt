@@ -1,7 +1,7 @@
 use borrow.Author.Needs.{needs}
-use Rattle.reader.proofs.Groups.{entry-there}
-use Rattle.reader.proofs.checking.offset_of.Statement.{statement}
-use Rattle.reader.proofs.checking.offset_of.Tie as tie
+use Rattle.opening.proofs.Groups.{entry-there}
+use Rattle.opening.proofs.offset_of.Statement.{statement}
+use Rattle.opening.proofs.offset_of.Tie as tie
 
 -- src/lib.rt:22:5
 cast-result : tie.Need-cast-result

@@ -1,8 +1,8 @@
 use mathlib.Core.Path.{_∙_}
 use borrow.Author.Needs.{needs}
-use Rattle.reader.proofs.Ways.{step-refused, step-keeps, step-opens, step-fields, step-done, done-keeps, step-rises, step-within, step-readable, step-room, step-reads, puts-group}
-use Rattle.reader.proofs.decode_group_lent.Statement.{statement}
-use Rattle.reader.proofs.decode_group_lent.Tie as tie
+use Rattle.walk.proofs.Ways.{step-refused, step-keeps, step-opens, step-fields, step-done, done-keeps, step-rises, step-within, step-readable, step-room, step-reads, puts-group}
+use Rattle.walk.proofs.one_group.decode_group_lent.Statement.{statement}
+use Rattle.walk.proofs.one_group.decode_group_lent.Tie as tie
 
 returns : tie.Need-returns
 returns c = ((c .refused .ensures ∙ search step-refused, search step-keeps), search needs)

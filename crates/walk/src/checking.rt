@@ -1,0 +1,30 @@
+// Every refusal of a step, found from the header, the table and the group's block headers.
+use format::Checked;
+use format::Frames;
+use format::Refusal;
+ghost use mathlib.Core.Path.{_≡_};
+ghost use Rattle.format.specs.Walking.{checkWalk};
+
+// At group g, into so much room.
+pub fn check_walk(file: &[u8], g: u32, room: usize) -> Checked
+    ensures { λ r. ⌜ r ≡ checkWalk (now (file .entry)) g room ⌝ }
+{
+    if let Checked::No(r) = opening::check_open(file) {
+        return Checked::No(r);
+    }
+    let h = header::read_fields(file);
+    if header::groups_of(h.frames) <= g {
+        return Checked::Fine;
+    }
+    let format = opening::format_of(file, h);
+    let a = opening::offset_of(file, h, g);
+    let e = opening::offset_of(file, h, g + 1);
+    if let Checked::No(r) = group::check_group(h, format, &file[a..e]) {
+        return Checked::No(r);
+    }
+    let frames = Frames(group::active(h.frames, g) as u32);
+    if (room as u64) < frames.samples(h.channels).0 {
+        return Checked::No(Refusal::OutputTooShort);
+    }
+    Checked::Fine
+}

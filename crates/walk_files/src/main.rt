@@ -1,0 +1,5 @@
+use recorded::List;
+
+fn main() {
+    recorded::run(List::Walks);
+}
