@@ -236,7 +236,7 @@ pub record EachStep : Type 0 where
       → Advances s g lent (refusedBy x) after next → Advances s next lent′ r after′ next′ → (r ≡ refusedBy x) × (after′ ≡ lent′) × (next′ ≡ g)
   -- done changes nothing either, and is said for ever
   pub done-again : (s : List ℕ) (g : ℕ) (lent after lent′ after′ : List ℤ) (r : Answer) (next next′ : ℕ)
-      → Advances s g lent done after next → Advances s next lent′ r after′ next′ → (after ≡ lent) × (r ≡ done) × (after′ ≡ lent′) × (next′ ≡ g)
+      → Advances s g lent done after next → Advances s next lent′ r after′ next′ → (after ≡ lent) × (next ≡ g) × (r ≡ done) × (after′ ≡ lent′) × (next′ ≡ g)
   -- done is said exactly where no group is left
   pub done-exactly : (s : List ℕ) (h : Header) (g : ℕ) (lent after : List ℤ) (r : Answer) (next : ℕ)
       → Opens s (answeredBy (Opened h)) → Advances s g lent r after next → Exactly (r ≡ done) (h .groups ≤ g)
@@ -298,7 +298,7 @@ each-step =
           let none = step-done s g lent after (d .0) in
           let a = done-step s g lent after done next opens none d in
           let b = done-step s g lent′ after′ r next′ opens none (rw (a .2) at d′) in
-          (a .1, b .0, b .1, b .2);
+          (a .1, a .2, b .0, b .1, b .2);
       done-exactly = λ s h g lent after r next e d. (
         λ q. left-none s h e g .0 (step-done s g lent after (rw q at (d .0))),
         λ l. done-step s g lent after r next (opens-fine s h e) (left-none s h e g .1 l) d .0,
