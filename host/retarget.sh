@@ -1,4 +1,5 @@
-# The archive's code for an Arm machine, to be timed there and for nothing else. host/machine.sh is sourced first.
+# The archive's code for the machine it runs on, to be timed, compared and fuzzed there: on Arm it is the same module by another code generator.
+# It is not for callers: they take the archive. host/machine.sh is sourced first.
 
 # kit_beside FOLDER KEPT: the Rattle kit by links, but for its clang: a script that leaves the module and its own words in KEPT.
 kit_beside() {
@@ -25,7 +26,8 @@ module_for() {
         sed -e '/^target /d' -e 's/ "\(target-cpu\|target-features\|tune-cpu\)"="[^"]*"//g'
 }
 
-# retarget FOLDER: libncw.a in FOLDER, from the module and by the words that the archive for x86-64 is compiled by; only the target is another.
+# retarget FOLDER WORDS..: libncw.a in FOLDER, from the module and by the words that the archive for x86-64 is compiled by; only the target is another,
+# and WORDS come after them.
 retarget() (
     local folder=$1 arm=$machine-unknown-linux-gnu clang words
     rm -rf "$folder"
@@ -35,6 +37,6 @@ retarget() (
     cd "$folder/kept"
     module_for "$arm" >module.ll
     mapfile -t words < <(sed -e "s/^--target=.*/--target=$arm/" -e '/^-march=/d' -e 's/^module\.bc$/module.ll/' words)
-    "$clang" "${words[@]}"
+    "$clang" "${words[@]}" "${@:2}"
     "${clang%clang}llvm-ar" rcs "$folder/libncw.a" module.o
 )

@@ -1,4 +1,9 @@
 //! The Rust original and ours on the same inputs.
+#![cfg_attr(fuzzed, no_main, allow(dead_code))]
+
+#[cfg(fuzzed)]
+extern crate asking;
+#[cfg(not(fuzzed))]
 #[allow(dead_code)]
 #[path = "../definitions/asking.rs"]
 mod asking;
@@ -20,6 +25,9 @@ mod faults;
 #[allow(dead_code)]
 #[path = "../definitions/files.rs"]
 mod files;
+#[cfg(fuzzed)]
+#[path = "../fuzz/mod.rs"]
+mod fuzz;
 mod input;
 #[path = "../definitions/inputs.rs"]
 mod inputs;

@@ -27,7 +27,7 @@ pub fn one<A: Answers>(tally: &Tally<A>, difference: Option<&Difference>) {
     }
 }
 
-fn print(difference: &Difference) {
+pub fn print(difference: &Difference) {
     println!("{}: the Rust or document 01: {}; ours: {}", difference.what, difference.rust, difference.ours);
 }
 

@@ -1,11 +1,13 @@
 //! The cases: document 01's own, what a reader has to tell apart, every refusal, and some drawn from a seed.
 use crate::asking::{ask, Answer, Question};
-use crate::blocks::{at_depth, differences, file, filled, flagged, noise, noisy, noisy_raw, raw};
+use crate::blocks::{at_depth, differences, file, filled, flagged, noise, raw};
 use crate::faults::{put, set_end};
 use crate::files::{Block, File};
 use crate::inputs::Maker;
+use crate::noisy::{noisy, noisy_at_depth, noisy_raw};
 use crate::orders::{Call, OF_FIRST_BLOCK, OF_LATER_BLOCK, OF_OPENING};
 use crate::random::Random;
+use crate::tape::{samples_in, MOST_SAMPLES};
 use ncw::{encode_pcm, PcmSpec, StereoMode};
 
 pub struct Case {
@@ -19,32 +21,24 @@ type List = fn(&mut Random) -> Vec<Case>;
 
 const SEED: u64 = 20_260_101;
 
-/// The most that the programs lend.
-const MOST_ROOM: usize = 4_096;
-
 /// How many cases are drawn, and the longest file among them.
 const DRAWN: usize = 40;
 const LONGEST_DRAWN: usize = 2_000;
 
-/// The cases of each program: so many in one that the interpreter of `rt try` gets through them.
-pub fn programs() -> [(&'static str, Vec<Case>); 4] {
+#[rustfmt::skip]
+pub fn all() -> Vec<Case> {
     let random = &mut Random::new(SEED);
-    let mut all = |lists: &[List]| lists.iter().flat_map(|list| list(random)).collect();
-    [
-        ("read_cases", all(&[of_document, of_lengths, of_bits_0, of_bits_beyond, of_channels, of_layout])),
-        ("read_widths", all(&[of_widths])),
-        ("read_flags", all(&[of_flags, of_floats, drawn])),
-        ("read_refused", all(&[of_openings, of_tables, of_groups, of_group_signatures, of_orders, of_room])),
-    ]
+    let lists: [List; 16] = [
+        of_document, of_lengths, of_bits_0, of_bits_beyond, of_channels, of_layout, of_widths, of_flags, of_floats, drawn,
+        of_openings, of_tables, of_groups, of_group_signatures, of_orders, of_room,
+    ];
+    lists.iter().flat_map(|list| list(random)).collect()
 }
 
 /// With room for three samples more than the file has.
 fn case(name: impl Into<String>, file: Vec<u8>) -> Case {
-    let samples = match ask(&Question::Open(file.clone())) {
-        Answer::Opened(numbers) => (numbers[0] * numbers[3]) as usize,
-        _ => 0,
-    };
-    case_in(MOST_ROOM.min(samples + 3), name, file)
+    let room = MOST_SAMPLES.min(samples_in(&file) + 3);
+    case_in(room, name, file)
 }
 
 fn case_in(room: usize, name: impl Into<String>, file: Vec<u8>) -> Case {
@@ -65,7 +59,7 @@ fn encoded(channels: u16, samples: &[i32], mode: StereoMode) -> Vec<u8> {
 
 /// A group one byte under what opening asks.
 pub fn short_group(channels: u16, random: &mut Random) -> Vec<u8> {
-    let whole = filled(channels, 1, || noisy(1, random));
+    let whole = filled(channels, 1, || differences(random.signed(32), 1, &noise(1, random)));
     let mut bytes = whole.bytes();
     set_end(&mut bytes, &whole.places(), 80 * usize::from(channels) - 1);
     bytes
@@ -99,7 +93,7 @@ fn of_lengths(random: &mut Random) -> Vec<Case> {
 }
 
 fn of_bits_0(random: &mut Random) -> Vec<Case> {
-    let mut read = |depth: u16| file(1, depth, 512, vec![vec![at_depth(depth, &noise(depth.into(), random))]]).bytes();
+    let mut read = |depth: u16| file(1, depth, 512, vec![vec![noisy_at_depth(depth, random)]]).bytes();
     [8, 16, 24, 32].map(|depth| case(format!("bits 0 at depth {depth}"), read(depth))).into()
 }
 

@@ -1,13 +1,15 @@
 //! What the encoder is asked: document 01's own cases, every width, what each mode takes, every refusal that a run can reach, and some drawn from a seed.
 use crate::asking::{ask, Answer, Question};
+use crate::draw::{Draw, Samples};
 use crate::random::Random;
+use crate::tape::SPACE;
 use ncw::{PcmSpec, StereoMode};
 
 pub struct Encoding {
     pub name: String,
     pub spec: PcmSpec,
     pub mode: StereoMode,
-    pub samples: Vec<i32>,
+    pub samples: Samples,
     /// How many bytes there is room for.
     pub room: usize,
 }
@@ -16,22 +18,18 @@ type List = fn(&mut Random) -> Vec<Encoding>;
 
 const SEED: u64 = 20_260_105;
 
-/// The most bytes that the programs lend.
-const MOST_ROOM: usize = 16_384;
-
 const DRAWN: usize = 12;
 
 const MODES: [StereoMode; 3] = [StereoMode::Auto, StereoMode::Direct, StereoMode::MidSide];
 
-/// The cases of each program: so many in one that the interpreter of `rt try` gets through them.
-pub fn programs() -> [(&'static str, Vec<Encoding>); 3] {
+#[rustfmt::skip]
+pub fn all() -> Vec<Encoding> {
     let random = &mut Random::new(SEED);
-    let mut all = |lists: &[List]| lists.iter().flat_map(|list| list(random)).collect();
-    [
-        ("write_cases", all(&[of_document, of_lengths, of_padding, of_parity, of_choice])),
-        ("write_widths", all(&[of_widths, drawn])),
-        ("write_refused", all(&[of_settings, of_values, of_stereo, of_orders, of_room])),
-    ]
+    let lists: [List; 12] = [
+        of_document, of_lengths, of_padding, of_parity, of_choice, of_widths, drawn,
+        of_settings, of_values, of_stereo, of_orders, of_room,
+    ];
+    lists.iter().flat_map(|list| list(random)).collect()
 }
 
 pub fn spec(channels: u16, depth: u16) -> PcmSpec {
@@ -39,30 +37,22 @@ pub fn spec(channels: u16, depth: u16) -> PcmSpec {
 }
 
 /// With room for twelve bytes more than the file takes.
-fn case(name: &str, spec: PcmSpec, mode: StereoMode, samples: &[i32]) -> Encoding {
-    let length = length(spec, mode, samples).unwrap_or(0);
-    case_in(MOST_ROOM.min(length + 12), name, spec, mode, samples)
+fn case(name: &str, spec: PcmSpec, mode: StereoMode, samples: impl Into<Samples>) -> Encoding {
+    let samples = samples.into();
+    let length = length(spec, mode, &samples.values()).unwrap_or(0);
+    case_in(SPACE.min(length + 12), name, spec, mode, samples)
 }
 
-fn case_in(room: usize, name: &str, spec: PcmSpec, mode: StereoMode, samples: &[i32]) -> Encoding {
+fn case_in(room: usize, name: &str, spec: PcmSpec, mode: StereoMode, samples: impl Into<Samples>) -> Encoding {
     let name = format!("{name}, {mode:?}, room {room}");
-    Encoding { name, spec, mode, samples: samples.to_vec(), room }
+    Encoding { name, spec, mode, samples: samples.into(), room }
 }
 
 fn length(spec: PcmSpec, mode: StereoMode, samples: &[i32]) -> Option<usize> {
-    match answer_to(spec, mode, samples) {
+    match ask(&Question::Encode(spec, mode, samples.to_vec())) {
         Answer::Bytes(file) => Some(file.len()),
         _ => None,
     }
-}
-
-fn answer_to(spec: PcmSpec, mode: StereoMode, samples: &[i32]) -> Answer {
-    ask(&Question::Encode(spec, mode, samples.to_vec()))
-}
-
-/// The answer of the original.
-pub fn answer(case: &Encoding) -> Answer {
-    answer_to(case.spec, case.mode, &case.samples)
 }
 
 fn in_all_modes(name: &str, spec: PcmSpec, samples: &[i32]) -> Vec<Encoding> {
@@ -90,9 +80,9 @@ fn of_document(_: &mut Random) -> Vec<Encoding> {
 fn of_lengths(random: &mut Random) -> Vec<Encoding> {
     let mut cases = Vec::new();
     for (frames, channels) in [(511, 1), (512, 1), (513, 1), (512, 2), (513, 2), (1024, 1)] {
-        let samples: Vec<i32> = (0..frames * channels).map(|_| 2 * random.signed(9)).collect();
+        let samples = Samples::Drawn(Draw::signed(9, random).doubled(), frames * channels);
         let mode = if channels == 1 { StereoMode::Direct } else { StereoMode::MidSide };
-        cases.push(case(&format!("{frames} frames"), spec(channels as u16, 16), mode, &samples));
+        cases.push(case(&format!("{frames} frames"), spec(channels as u16, 16), mode, samples));
     }
     cases
 }

@@ -1,16 +1,17 @@
 //! What the re-encoder is asked: document 01's own cases, every width, all that of a template has to stay, every refusal that a run can reach.
-use crate::asking::{ask, Answer, Question};
-use crate::blocks::{at_depth, differences, file, flagged, noise, raw};
+use crate::blocks::{at_depth, differences, file, flagged, raw};
+use crate::draw::{Draw, Samples};
 use crate::encodings::spec;
 use crate::faults::put;
-use crate::files::{Block, File};
+use crate::files::{steps, Block, File};
+use crate::noisy::begun_run;
 use crate::random::Random;
 use ncw::{encode_pcm, PcmSpec, StereoMode};
 
 pub struct Reencoding {
     pub name: String,
     pub spec: PcmSpec,
-    pub samples: Vec<i32>,
+    pub samples: Samples,
     pub template: Vec<u8>,
     /// How many bytes there is room for.
     pub room: usize,
@@ -20,25 +21,24 @@ type List = fn(&mut Random) -> Vec<Reencoding>;
 
 const SEED: u64 = 20_261_115;
 
-/// The cases of each program.
-pub fn programs() -> [(&'static str, Vec<Reencoding>); 3] {
+#[rustfmt::skip]
+pub fn all() -> Vec<Reencoding> {
     let random = &mut Random::new(SEED);
-    let mut all = |lists: &[List]| lists.iter().flat_map(|list| list(random)).collect();
-    [
-        ("rewrite_cases", all(&[of_document, of_own, of_others, of_two_groups, of_what_stays, of_flags])),
-        ("rewrite_widths", all(&[of_differences, of_raw])),
-        ("rewrite_refused", all(&[of_calls, of_headers, of_tables, of_groups, of_blocks, of_orders, of_room])),
-    ]
+    let lists: [List; 15] = [
+        of_document, of_own, of_others, of_two_groups, of_what_stays, of_flags, of_differences, of_raw,
+        of_calls, of_headers, of_tables, of_groups, of_blocks, of_orders, of_room,
+    ];
+    lists.iter().flat_map(|list| list(random)).collect()
 }
 
 /// With room for twelve bytes more than the template has.
-fn case(name: &str, spec: PcmSpec, samples: &[i32], template: Vec<u8>) -> Reencoding {
+fn case(name: &str, spec: PcmSpec, samples: impl Into<Samples>, template: Vec<u8>) -> Reencoding {
     let (name, room) = (name.to_string(), template.len() + 12);
-    Reencoding { name, spec, samples: samples.to_vec(), template, room }
+    Reencoding { name, spec, samples: samples.into(), template, room }
 }
 
 /// At 44,100, with the template's own channels and depth.
-fn with(name: &str, samples: &[i32], template: &File) -> Reencoding {
+fn with(name: &str, samples: impl Into<Samples>, template: &File) -> Reencoding {
     case(name, spec(template.channels, template.depth), samples, template.bytes())
 }
 
@@ -49,15 +49,14 @@ fn encoded(spec: PcmSpec, mode: StereoMode, samples: &[i32]) -> Vec<u8> {
 
 /// Differences of the samples, and any others after them.
 fn begun(width: u32, samples: &[i32], random: &mut Random) -> Block {
-    let steps = samples.windows(2).map(|pair| pair[1].wrapping_sub(pair[0]));
-    let values: Vec<i32> = steps.chain(noise(width, random)).take(512).collect();
-    Block { padding: 0xA1B2_C3D4, ..differences(samples[0], width, &values) }
+    let run = begun_run(&steps(samples), width, random);
+    Block { padding: 0xA1B2_C3D4, run, ..differences(samples[0], width, &[]) }
 }
 
 /// The samples as they are, any others after them, and any base.
 fn begun_raw(width: u32, samples: &[i32], random: &mut Random) -> Block {
-    let values: Vec<i32> = samples.iter().copied().chain(noise(width, random)).take(512).collect();
-    Block { base: random.signed(32), padding: 0x0102_0304, ..raw(width, &values) }
+    let run = begun_run(samples, width, random);
+    Block { base: random.signed(32), padding: 0x0102_0304, run, ..raw(width, &[]) }
 }
 
 /// A mono file of one frame with that block.
@@ -66,7 +65,12 @@ fn alone(depth: u16, block: Block) -> File {
 }
 
 fn drawn(count: usize, bits: u32, random: &mut Random) -> Vec<i32> {
-    (0..count).map(|_| random.signed(bits)).collect()
+    Samples::Drawn(Draw::signed(bits, random), count).values()
+}
+
+/// Numbers of one parity.
+fn even(count: usize, bits: u32, random: &mut Random) -> Samples {
+    Samples::Drawn(Draw::signed(bits, random).doubled(), count)
 }
 
 // ---- what is written
@@ -95,9 +99,9 @@ fn of_own(random: &mut Random) -> Vec<Reencoding> {
         (40, 2, StereoMode::MidSide),
         (513, 2, StereoMode::MidSide),
     ] {
-        let (spec, samples) = (spec(channels, 16), drawn(frames * usize::from(channels), 8, random));
-        let samples: Vec<i32> = samples.iter().map(|sample| 2 * sample).collect();
-        cases.push(case(&format!("{frames} frames, its own"), spec, &samples, encoded(spec, mode, &samples)));
+        let (spec, samples) = (spec(channels, 16), even(frames * usize::from(channels), 8, random));
+        let template = encoded(spec, mode, &samples.values());
+        cases.push(case(&format!("{frames} frames, its own"), spec, samples, template));
     }
     cases
 }
@@ -109,9 +113,8 @@ fn of_others(random: &mut Random) -> Vec<Reencoding> {
         [(30, 1, 16, StereoMode::Auto), (512, 1, 24, StereoMode::Direct), (30, 2, 24, StereoMode::Direct)]
     {
         let (spec, count) = (spec(channels, depth), frames * usize::from(channels));
-        let [old, new] =
-            [10, 8].map(|bits| drawn(count, bits, random).iter().map(|sample| sample & !1).collect::<Vec<_>>());
-        cases.push(case(&format!("{frames} frames, others"), spec, &new, encoded(spec, mode, &old)));
+        let [old, new] = [9, 7].map(|bits| even(count, bits, random));
+        cases.push(case(&format!("{frames} frames, others"), spec, new, encoded(spec, mode, &old.values())));
     }
     cases
 }
@@ -120,16 +123,16 @@ fn of_others(random: &mut Random) -> Vec<Reencoding> {
 fn of_two_groups(random: &mut Random) -> Vec<Reencoding> {
     let mut cases = Vec::new();
     for (channels, flags) in [(1, 0), (2, 0), (2, 1)] {
-        let mut block = |_| flagged(flags, begun(12, &drawn(512, 9, random), random));
+        let mut block = |_| flagged(flags, begun(12, &drawn(9, 9, random), random));
         let groups = (0..2).map(|_| (0..channels).map(&mut block).collect()).collect();
         let template = file(channels, 16, 514, groups);
-        let new: Vec<i32> = drawn(514 * usize::from(channels), 9, random).iter().map(|sample| 2 * sample).collect();
-        cases.push(with(&format!("514 frames, {channels} channels, flags {flags}"), &new, &template));
+        let new = even(514 * usize::from(channels), 9, random);
+        cases.push(with(&format!("514 frames, {channels} channels, flags {flags}"), new, &template));
     }
     cases
 }
 
-/// Signature, unknown bytes, gap, tail, padding words, last differences, padded samples. The programs look at whole words, so every length is a
+/// Signature, unknown bytes, gap, tail, padding words, last differences, padded samples. The list has the sum of whole words, so every length is a
 /// multiple of 4.
 fn of_what_stays(random: &mut Random) -> Vec<Reencoding> {
     let mut cases = Vec::new();
@@ -144,9 +147,9 @@ fn of_what_stays(random: &mut Random) -> Vec<Reencoding> {
             &template,
         ));
     }
-    let full: Vec<i32> = drawn(512, 6, random);
-    let last = alone(16, Block { bits: 8, ..differences(full[0], 8, &[-77; 512]) });
-    cases.push(with("512 frames, any last difference", &full, &File { frames: 512, ..last }));
+    let last = alone(16, Block { bits: 8, ..differences(7, 8, &[-77; 512]) });
+    let full = Samples::Drawn(Draw::signed(6, random), 512);
+    cases.push(with("512 frames, any last difference", full, &File { frames: 512, ..last }));
     cases
 }
 
@@ -340,9 +343,4 @@ fn of_room(random: &mut Random) -> Vec<Reencoding> {
     let with = |room| Reencoding { room, ..with(&format!("room {room}"), &samples, &template) };
     let wide = Reencoding { room: 0, ..self::with("36 before 50", &[0, 5000, 0], &template) };
     [length, length - 1, 0].map(with).into_iter().chain([wide]).collect()
-}
-
-/// The answer of the original.
-pub fn answer(case: &Reencoding) -> Answer {
-    ask(&Question::Reencode(case.spec, case.samples.clone(), case.template.clone()))
 }

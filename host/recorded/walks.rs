@@ -1,8 +1,9 @@
 //! Files that are walked over group by group: from none to four groups of every kind, damaged ones, bytes that do not open, and too little room.
 use crate::asking::{ask, Answer, Question};
-use crate::blocks::{at_depth, file, filled, flagged, noise, noisy, noisy_raw};
+use crate::blocks::{file, filled, flagged};
 use crate::cases::{float_pairs, set, with_flags, FAULTS};
 use crate::files::File;
+use crate::noisy::{noisy, noisy_at_depth, noisy_raw};
 use crate::random::Random;
 
 pub struct Walk {
@@ -10,15 +11,13 @@ pub struct Walk {
     pub file: Vec<u8>,
     /// How many samples each step has room for.
     pub room: usize,
-    /// The file before one of its groups was damaged, and which. Of bytes that do not open it is the first.
-    damaged: Option<(Vec<u8>, usize)>,
 }
 
 type List = fn(&mut Random) -> Vec<Walk>;
 
 const SEED: u64 = 20_261_116;
 
-pub fn cases() -> Vec<Walk> {
+pub fn all() -> Vec<Walk> {
     let random = &mut Random::new(SEED);
     let lists: [List; 5] = [of_lengths, of_kinds, of_damage, of_openings, of_room];
     lists.iter().flat_map(|list| list(random)).collect()
@@ -27,11 +26,12 @@ pub fn cases() -> Vec<Walk> {
 /// Each step has room for three samples more than a whole group has.
 fn walk(name: impl Into<String>, file: Vec<u8>) -> Walk {
     let room = 512 * channels_of(&file) + 3;
-    Walk { name: name.into(), file, room, damaged: None }
+    Walk { name: name.into(), file, room }
 }
 
-fn damaged(name: impl Into<String>, good: Vec<u8>, file: Vec<u8>, group: usize) -> Walk {
-    Walk { file, damaged: Some((good.clone(), group)), ..walk(name, good) }
+/// With the room of the good file.
+fn damaged(name: impl Into<String>, good: Vec<u8>, file: Vec<u8>) -> Walk {
+    Walk { file, ..walk(name, good) }
 }
 
 fn in_room(room: usize, walk: Walk) -> Walk {
@@ -61,7 +61,7 @@ fn of_kinds(random: &mut Random) -> Vec<Walk> {
         }
     };
     let widths = [[32, 1], [5, 24], [17, 2], [8, 31]].map(|pair| pair.map(&mut next).into()).into();
-    let at_depth = at_depth(24, &noise(24, random));
+    let at_depth = noisy_at_depth(24, random);
     let depth = file(1, 24, 1500, vec![vec![noisy(3, random)], vec![at_depth], vec![noisy_raw(11, random)]]);
     let float = [noisy(9, random), noisy_raw(32, random)].map(|block| vec![flagged(2, block)]).into();
     let mut pairs = float_pairs();
@@ -87,24 +87,23 @@ fn of_damage(random: &mut Random) -> Vec<Walk> {
         let (mut file, group) = (filled(*channels, 1030, || noisy(2, random)), (k + 2) % 3);
         let good = file.bytes();
         fault(&mut file.groups[group]);
-        cases.push(damaged(format!("{name}, group {group}"), good, file.bytes(), group));
+        cases.push(damaged(format!("{name}, group {group}"), good, file.bytes()));
     }
     let good = filled(2, 1030, || noisy(2, random));
     let blocks = good.places().blocks;
     let unsigned = |group: usize| set(&good, &[(blocks[group][1], 1, 0)]);
-    let signature = |group: usize| {
-        damaged(format!("signature of the second block, group {group}"), good.bytes(), unsigned(group), group)
-    };
+    let signature =
+        |group: usize| damaged(format!("signature of the second block, group {group}"), good.bytes(), unsigned(group));
     cases.extend((0..3).map(signature));
     let both = set(&good, &[(blocks[1][1] + 8, 2, 0x8000), (blocks[2][0] + 10, 2, 2)]);
-    cases.push(damaged("bits word, group 1, and float bit, group 2", good.bytes(), both, 1));
+    cases.push(damaged("bits word, group 1, and float bit, group 2", good.bytes(), both));
     cases
 }
 
 fn of_openings(random: &mut Random) -> Vec<Walk> {
     let good = filled(1, 1030, || noisy(2, random));
     let (table, start) = (good.places().table, good.places().start);
-    let unopened = |name: &str, file: Vec<u8>| damaged(name, good.bytes(), file, 0);
+    let unopened = |name: &str, file: Vec<u8>| damaged(name, good.bytes(), file);
     vec![
         unopened("the first 119 bytes", good.bytes()[..119].to_vec()),
         unopened("signature", set(&good, &[(4, 1, 0x32)])),
@@ -123,35 +122,16 @@ fn of_room(random: &mut Random) -> Vec<Walk> {
     for group in [1, 0] {
         two.groups[group][0].bits = 33;
         let name = format!("channels 1, frames 513, bits 33 from group {group} on");
-        cases.push(in_room(511, damaged(name, good.clone(), two.bytes(), group)));
+        cases.push(in_room(511, damaged(name, good.clone(), two.bytes())));
     }
     let three = filled(3, 5, || noisy(2, random)).bytes();
     cases.extend([15, 14].map(|room| in_room(room, walk("channels 3, frames 5", three.clone()))));
     cases
 }
 
-// ---- what is answered
-
 fn channels_of(file: &[u8]) -> usize {
     match ask(&Question::Open(file.to_vec())) {
         Answer::Opened(numbers) => numbers[0] as usize,
         _ => panic!("a good file does not open"),
     }
-}
-
-/// The original's samples cut by groups: those of the steps that read, before the damage, and where there is room.
-/// Then the refusal that ends the walk, if one does: the original's, or 50.
-pub fn steps(walk: &Walk) -> (Vec<Vec<i32>>, Option<Answer>) {
-    let good = walk.damaged.as_ref().map_or(&walk.file, |(good, _)| good);
-    let Answer::Samples(samples) = ask(&Question::Decode(good.clone())) else { panic!("a good file is refused") };
-    let groups: Vec<Vec<i32>> = samples.chunks(512 * channels_of(good)).map(<[i32]>::to_vec).collect();
-    let left = walk.damaged.as_ref().map_or(groups.len(), |(_, group)| *group);
-    let read: Vec<Vec<i32>> = groups.into_iter().take(left).take_while(|group| group.len() <= walk.room).collect();
-    let end = match (ask(&Question::Decode(walk.file.clone())), &walk.damaged) {
-        _ if read.len() < left => Some(Answer::Refused(50, 0)),
-        (Answer::Samples(_), None) => None,
-        (Answer::Refused(number, bits), Some(_)) => Some(Answer::Refused(number, bits)),
-        _ => panic!("damage that is not refused, or a refusal without damage"),
-    };
-    (read, end)
 }

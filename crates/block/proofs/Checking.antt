@@ -22,7 +22,7 @@ use Rattle.format.specs.declared.packed.Coding.the-variants.{Differences, Raw, 
 use Rattle.format.specs.declared.answers.Fields.{Fields}
 use Rattle.format.specs.declared.settings.SampleFormat.{SampleFormat}
 use Rattle.format.specs.declared.refusals.Checked.the-variants.{Fine, No}
-use Rattle.format.specs.declared.refusals.Refusal.the-variants.{TooShort, BlockSignature, BitsWord, FloatDiffers, MidSideChannels}
+use Rattle.format.specs.declared.refusals.Refusal.the-variants.{TooShort, BitsWord, FloatDiffers, MidSideChannels}
 use Rattle.block.specs.Read.{blockHeader}
 use Rattle.block.specs.declared.BlockHeader.{BlockHeader}
 use Rattle.block.proofs.Headers.{bits-are, coding-is}
@@ -35,14 +35,6 @@ known-by (Raw w) o = refl
 known-by Beyond o = ⊎-elim (λ (e : 2 ≡ 0). absurd (omega arith)) (λ (e : 2 ≡ 1). absurd (omega arith)) o
 
 module _ (h : Fields) (format : SampleFormat) (c : ℕ) (r : List ℕ) where
-  pub no-header : length r < 16 → No TooShort ≡ checkBlock h format c r
-  unfolding checkBlock refuse _then_
-  no-header l = rw (lt-ltb (length r) 16 l)
-
-  pub no-mark : (m : Bool) → 16 ≤ length r → m ≡ isBlock r → m ≡ false → No BlockSignature ≡ checkBlock h format c r
-  unfolding checkBlock refuse _then_
-  no-mark m l e n = rw (le-ltb (length r) 16 l, ← e, n)
-
   -- a header with the mark
   module _ (long : 16 ≤ length r) (m : Bool) (mark : m ≡ isBlock r) (marked : m ≡ true) (b : BlockHeader) (header : b ≡ blockHeader r) where
     float-is : eqb (b .flags / 2 % 2) 1 ≡ floatBit r

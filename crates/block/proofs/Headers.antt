@@ -46,19 +46,16 @@ header-is s z t n m f fits a l b small c d e =
     rw (toZ-ofZ w32 z (record { sfits = fits }), word-is t m small c, whole, b, d, e)
 
 -- ---- the length
+width-by : (n : ℕ) (x : Coding) → widthOf x ≡ n → (t : Bool) → leb n 32 ≡ t → widthOf (cond t x Beyond) ≤ 32
+unfolding widthOf
+width-by n x w true l = omega (arith, leb-true n 32 l)
+width-by n x w false l = omega arith
+
 pub width-most : (depth : ℕ) (z : ℤ) → depth ≤ 32 → widthOf (coding depth z) ≤ 32
 unfolding coding widthOf
 width-most depth (pos zero) h = h
-width-most depth (pos (suc n)) h = by (leb (suc n) 32) refl
-  where
-    by : (t : Bool) → leb (suc n) 32 ≡ t → widthOf (cond t (Differences (suc n)) Beyond) ≤ 32
-    by true l = leb-true (suc n) 32 l
-    by false l = omega arith
-width-most depth (negsuc n) h = by (leb (suc n) 32) refl
-  where
-    by : (t : Bool) → leb (suc n) 32 ≡ t → widthOf (cond t (Raw (suc n)) Beyond) ≤ 32
-    by true l = leb-true (suc n) 32 l
-    by false l = omega arith
+width-most depth (pos (suc n)) h = width-by (suc n) (Differences (suc n)) refl (leb (suc n) 32) refl
+width-most depth (negsuc n) h = width-by (suc n) (Raw (suc n)) refl (leb (suc n) 32) refl
 
 module _ (depth : ℕ) (r : List ℕ) (b : BlockHeader) (header : b ≡ blockHeader r) (fits : SFits w16 (b .bits)) where
   pub bits-are : toZ w16 (ofZ w16 (b .bits)) ≡ bitsOf r

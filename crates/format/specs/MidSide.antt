@@ -5,28 +5,28 @@ use mathlib.Core.Bool.{cond}
 use lib.IntN.{ℤ}
 use lib.ListN.{getD}
 use lib.Ieee as Ieee
-use lib.Ieee.{Float, binary32}
+use lib.Ieee.{binary32}
 use Rattle.format.specs.Lists.{pairwise}
 use Rattle.format.specs.Numbers.{value, codeOf, plus, minus}
 use Rattle.format.specs.declared.settings.SampleFormat.{SampleFormat}
-use Rattle.format.specs.declared.settings.SampleFormat.the-variants.{Pcm, Float as FloatFile}
+use Rattle.format.specs.declared.settings.SampleFormat.the-variants.{Pcm, Float}
 
 -- the 32 bits are f32
-unfoldable pub floatOf : ℤ → Float
+unfoldable pub floatOf : ℤ → Ieee.Float
 floatOf z = Ieee.ofBits binary32 (codeOf 32 z)
 
 -- the 32 bits of a result; of a NaN 0x7FC00000
-unfoldable pub patternOf : Float → ℕ
+unfoldable pub patternOf : Ieee.Float → ℕ
 patternOf x = cond (Ieee.isNan x) 0x7FC0_0000 (Ieee.toBits binary32 x)
 
 -- left = mid + side, right = mid − side
 unfoldable pub left : SampleFormat → ℤ → ℤ → ℤ
 left Pcm m s = plus m s
-left FloatFile m s = value 32 (patternOf (Ieee.add binary32 (floatOf m) (floatOf s)))
+left Float m s = value 32 (patternOf (Ieee.add binary32 (floatOf m) (floatOf s)))
 
 unfoldable pub right : SampleFormat → ℤ → ℤ → ℤ
 right Pcm m s = minus m s
-right FloatFile m s = value 32 (patternOf (Ieee.sub binary32 (floatOf m) (floatOf s)))
+right Float m s = value 32 (patternOf (Ieee.sub binary32 (floatOf m) (floatOf s)))
 
 -- two channels of mid and side as left and right
 unfoldable pub leftRight : SampleFormat → List (List ℤ) → List (List ℤ)

@@ -2,18 +2,18 @@
 use Prim.Native.Nat.{ℕ, suc, _+_, _-_, _*_, _/_, _≤_, _<_, min}
 use native.Mathlib.Decide.{decLe}
 use mathlib.Core.Path.{_≡_, refl, sym, ap, ap₂, _∙_}
-use mathlib.Core.List.{List, [], _∷_, _++_, map}
+use mathlib.Core.List.{List, [], _∷_, map}
 use native.Mathlib.Omega.{arith}
 use native.Mathlib.Nat.{mul-div-right, mul-comm, mul-sub, mul-assoc, mul-le-mul-left, mul-suc}
 use lib.ListN.{length, getD, take, drop, length-append, length-replicate, length-take, length-drop, length-map, List·getD-append, List·getD-map}
-use lib.Seq.{getD-take, getD-drop, take-all, length-take-le, ext-getD, getD-append-add}
+use lib.Seq.{getD-take, getD-drop, take-all, length-take-le, ext-getD}
 use lib.IntN.{ℤ, pos}
 use lib.Pow.{pow-pos}
 use Rattle.format.specs.Lists.{joined, from, lastOr}
 use Rattle.format.specs.Header.{groupsOf}
 use Rattle.format.specs.Decoding.{woven, active}
 use Rattle.format.specs.Encoding.{channel, plain, padded, split, groupIn}
-use Rattle.laws.proofs.Parts.{length-tab, getD-tab, joined-cong, joined-from, around, length-even}
+use Rattle.laws.proofs.Parts.{length-tab, getD-tab, joined-cong, joined-from, joined-at}
 use Rattle.laws.proofs.Each.{Each, each-append, each-tab, each-replicate, each-from, each-joined}
 use Rattle.laws.proofs.Signs.{Holds, AllHold}
 
@@ -102,19 +102,17 @@ module _ (n k : ℕ) (some : 1 ≤ n) (s : List ℤ) (l : length s ≡ n * k) wh
 
 -- ---- channels whose first k samples are those of s, woven
 -- frame i of the channels
-frameOf : List (List ℤ) → ℕ → List ℤ
+abbrev pub frameOf : List (List ℤ) → ℕ → List ℤ
 frameOf chans i = map (λ (ch : List ℤ). getD ch i (pos 0)) chans
 
-frame-length : (chans : List (List ℤ)) (i : ℕ) → length (frameOf chans i) ≡ length chans
-unfolding frameOf
+pub frame-length : (chans : List (List ℤ)) (i : ℕ) → length (frameOf chans i) ≡ length chans
 frame-length chans i = length-map chans (λ (ch : List ℤ). getD ch i (pos 0))
 
-frame-at : (chans : List (List ℤ)) (i c : ℕ) → getD (frameOf chans i) c (pos 0) ≡ getD (getD chans c []) i (pos 0)
-unfolding frameOf
+pub frame-at : (chans : List (List ℤ)) (i c : ℕ) → getD (frameOf chans i) c (pos 0) ≡ getD (getD chans c []) i (pos 0)
 frame-at chans i c = List·getD-map (λ (ch : List ℤ). getD ch i (pos 0)) chans c []
 
 woven-is : (k : ℕ) (chans : List (List ℤ)) → woven k chans ≡ joined (frameOf chans) k
-unfolding woven frameOf
+unfolding woven
 woven-is k chans = refl
 
 module _ (n k : ℕ) (s : List ℤ) (l : length s ≡ n * k) (chans : List (List ℤ)) (m : length chans ≡ n)
@@ -137,17 +135,11 @@ module _ (n k : ℕ) (s : List ℤ) (l : length s ≡ n * k) (chans : List (List
 -- and taken apart again
 pub woven-at : (n k : ℕ) (chans : List (List ℤ)) → length chans ≡ n → (c i : ℕ) → c < n → i < k → getD (woven k chans) (i * n + c) (pos 0) ≡ getD (getD chans c []) i (pos 0)
 woven-at n k chans m c i q h =
-    let w : (j : ℕ) → length (frameOf chans j) ≡ n = λ j. frame-length chans j ∙ m in
-    let a = around (frameOf chans) i k h in
-    let e : i * n + c ≡ length (joined (frameOf chans) i) + c = omega (arith, length-even (frameOf chans) n w i, mul-comm i n) in
-    ap₂ (λ (l : List ℤ) (x : ℕ). getD l x (pos 0)) (woven-is k chans ∙ a .1) e
-    ∙ getD-append-add (joined (frameOf chans) i) (frameOf chans i ++ a .0) c (pos 0)
-    ∙ List·getD-append (frameOf chans i) (a .0) (pos 0) c (omega (arith, w i))
-    ∙ frame-at chans i c
+    ap (λ (l : List ℤ). getD l (i * n + c) (pos 0)) (woven-is k chans) ∙ joined-at (frameOf chans) n (λ j. frame-length chans j ∙ m) k i c (pos 0) h q ∙ frame-at chans i c
 
 -- what holds of each sample of the channels holds of them woven
 pub each-woven : (P : ℤ → Type 0) → P (pos 0) → (k : ℕ) (chans : List (List ℤ)) → Each (Each P (pos 0)) [] chans → Each P (pos 0) (woven k chans)
-unfolding woven frameOf
+unfolding woven
 each-woven P z k chans p = each-joined P (pos 0) z (frameOf chans) k (λ i l c. rw (frame-at chans i c) (p c i))
 
 -- the padded channels give their samples back

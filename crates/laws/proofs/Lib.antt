@@ -5,6 +5,7 @@ pub mod Tests
 pub mod Parts
 pub mod Each
 pub mod Checks
+pub mod Chain
 -- numbers: digits and packing over the width, codes and signs, wrapped sums and differences, halves of them
 pub mod Digits
 pub mod Signs

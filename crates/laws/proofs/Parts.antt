@@ -4,11 +4,11 @@ use mathlib.Core.Path.{_≡_, refl, sym, ap, ap₂, _∙_, subst}
 use mathlib.Core.List.{List, [], _∷_, _++_, append-assoc, append-nil}
 use mathlib.Core.Logic.{_⊎_, ⊎-elim, inl, inr}
 use native.Mathlib.Omega.{arith}
-use native.Mathlib.Nat.{mul-suc, mul-zero}
+use native.Mathlib.Nat.{mul-suc, mul-zero, mul-comm}
 use native.Mathlib.Decide.{decLt}
 use native.Mathlib.Numerals.{add-one}
-use lib.ListN.{length, getD, take, drop, length-append, length-drop}
-use lib.Seq.{take-at, drop-at, drop-cons, take-add, take-take, drop-drop, ext-getD, drop-append-add, drop-append-le, take-append-le, length-take-le}
+use lib.ListN.{length, getD, take, drop, length-append, length-drop, List·getD-append}
+use lib.Seq.{take-at, drop-at, drop-cons, take-add, take-take, drop-drop, ext-getD, drop-append-add, drop-append-le, take-append-le, length-take-le, getD-append-add}
 use Rattle.format.specs.Lists.{tab, joined, from}
 
 pub below-suc : (k n : ℕ) → k < suc n → (k ≡ n) ⊎ (k < n)
@@ -69,6 +69,13 @@ module _ {A : Type 0} where
         ap (λ (x : List A). x ++ P n) (i .1) ∙ append-assoc (joined P g) (P g ++ i .0) (P n) ∙ ap (λ (x : List A). joined P g ++ x) (append-assoc (P g) (i .0) (P n)),
       ))
       (below-suc g n l)
+
+  -- element c of part i, of parts of one length
+  pub joined-at : (P : ℕ → List A) (w : ℕ) → ((k : ℕ) → length (P k) ≡ w) → (n i c : ℕ) (z : A) → i < n → c < w → getD (joined P n) (i * w + c) z ≡ getD (P i) c z
+  joined-at P w h n i c z l q =
+      let a = around P i n l in
+      let e : i * w + c ≡ length (joined P i) + c = omega (arith, length-even P w h i, mul-comm i w) in
+      ap₂ (λ (s : List A) (x : ℕ). getD s x z) (a .1) e ∙ getD-append-add (joined P i) (P i ++ a .0) c z ∙ List·getD-append (P i) (a .0) z c (omega (arith, h i))
 
   -- part g, behind what stands before it
   pub behind : (P : ℕ → List A) (g n : ℕ) (c : List A) → g < n → (t : List A) × (drop (length (joined P g)) (joined P n ++ c) ≡ P g ++ t)

@@ -6,7 +6,7 @@ use Prim.Native.Nat.{ℕ, zero, suc, _+_, _-_, _/_, _%_, _^_, _≤_, _<_}
 use native.Mathlib.Omega.{arith}
 use lib.Dec.{ltb}
 use lib.IntN.{ℤ, pos, negsuc, _+ℤ_, _-ℤ_, negℤ, subℕ}
-use lib.Signed.{mag, ltZ, quotZ}
+use lib.Signed.{mag, quotZ}
 use borrow.Author.Tests.{ltb-true, ltb-false}
 
 abbrev pub up : ℤ → ℕ
@@ -60,24 +60,6 @@ up-sub (pos m) (negsuc n) f g = omega arith
 up-sub (negsuc m) (pos zero) f g = omega (arith, up-subℕ 0 (suc m) (omega arith) (omega arith))
 up-sub (negsuc m) (pos (suc n)) f g = omega arith
 up-sub (negsuc m) (negsuc n) f g = omega (arith, up-subℕ (suc n) (suc m) (omega arith) (omega arith))
-
-pub lt-up : (a b : ℤ) → mag a < 2 ^ 38 → mag b < 2 ^ 38 → ltZ a b ≡ true → up a < up b
-lt-up (pos m) (pos n) f g e = omega (arith, ltb-true m n e)
-lt-up (pos m) (negsuc n) f g e = absurd (never e)
-  where
-    never : false ≡ true → ⊥
-    never e = let z : _≡_ {A = ℕ} 0 1 = cc in omega arith
-lt-up (negsuc m) (pos n) f g e = omega arith
-lt-up (negsuc m) (negsuc n) f g e = omega (arith, ltb-true n m e)
-
-pub ge-up : (a b : ℤ) → mag a < 2 ^ 38 → mag b < 2 ^ 38 → ltZ a b ≡ false → up b ≤ up a
-ge-up (pos m) (pos n) f g e = omega (arith, ltb-false m n e)
-ge-up (pos m) (negsuc n) f g e = omega arith
-ge-up (negsuc m) (pos n) f g e = absurd (never e)
-  where
-    never : true ≡ false → ⊥
-    never e = let z : _≡_ {A = ℕ} 0 1 = cc in omega arith
-ge-up (negsuc m) (negsuc n) f g e = omega (arith, ltb-false n m e)
 
 -- the half of an even number
 half-neg : (n : ℕ) → suc n % 2 ≡ 0 → n < 2 ^ 38 → up (negℤ (pos (suc n / 2))) + up (negℤ (pos (suc n / 2))) ≡ (2 ^ 40 - suc n) + 2 ^ 40

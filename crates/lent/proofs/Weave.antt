@@ -1,7 +1,7 @@
 -- Samples put into a list one after another, at every step-th place, and frame by frame: channels that are put each at its places are the frames
 -- put where they lie.
 use mathlib.Core.Path.{_≡_, refl, sym, ap, _∙_, subst}
-use mathlib.Core.List.{List, [], _∷_, _++_, map, append-assoc}
+use mathlib.Core.List.{List, [], _∷_, _++_, append-assoc}
 use mathlib.Core.Logic.{_⊎_, inl, inr}
 use Prim.Native.Nat.{ℕ, zero, suc, _+_, _-_, _*_, _/_, _%_, _<_, _≤_}
 use native.Mathlib.Nat.{add-mul, suc-mul, zero-mul, mul-comm, le-refl, add-zero, zero-add, mod-lt, div-add-mod', div-lt-iff-lt-mul, mul-zero}
@@ -9,12 +9,13 @@ use native.Mathlib.Decide.{decLt}
 use native.Mathlib.Omega.{arith}
 use lib.Arith.{digits-lt, digits-mod}
 use lib.IntN.{ℤ, pos}
-use lib.ListN.{length, getD, set, take, drop, length-set, length-append, length-drop, length-map, take-append-drop, List·getD-append, List·getD-map}
+use lib.ListN.{length, getD, set, take, drop, length-set, length-append, length-drop, take-append-drop, List·getD-append}
 use lib.Seq.{ext-getD, getD-set-same, getD-set-other, getD-append-add, getD-take, getD-drop, length-take-le, drop-cons, set-at}
-use Rattle.format.specs.Lists.{joined, from}
+use Rattle.format.specs.Lists.{from}
 use Rattle.format.specs.Decoding.{woven}
-use Rattle.laws.proofs.Parts.{length-even, joined-cong, around, length-from, below-suc}
-use Rattle.lent.specs.Lent.{placed, strided, wovenFrom}
+use Rattle.laws.proofs.Parts.{length-even, joined-at, joined-cong, length-from, below-suc}
+use Rattle.laws.proofs.Channels.{frameOf, frame-length, frame-at}
+use Rattle.lent.specs.Lent.{placed, strided, channelPut, wovenFrom}
 
 -- sample k of a run
 abbrev at : List ℤ → ℕ → ℤ
@@ -91,32 +92,19 @@ placed-more i xs s x h =
     (sym (set-at (take i s ++ xs) (at s (i + length xs)) d x (i + length xs) l))
 
 -- ---- frames
-abbrev frame : ℕ → List (List ℤ) → ℕ → List ℤ
-frame skip chans i = map (λ (ch : List ℤ). at ch (skip + i)) chans
-
 pub woven-from : (n : ℕ) (chans : List (List ℤ)) → woven n chans ≡ wovenFrom 0 n chans
 unfolding woven wovenFrom
-woven-from n chans = joined-cong (λ i. map (λ (ch : List ℤ). at ch i) chans) (frame 0 chans) n (λ i l. rw zero-add)
+woven-from n chans = joined-cong (frameOf chans) (λ i. frameOf chans (0 + i)) n (λ i l. rw zero-add)
 
 pub length-woven : (skip n : ℕ) (chans : List (List ℤ)) → length (wovenFrom skip n chans) ≡ length chans * n
 unfolding wovenFrom
-length-woven skip n chans = length-even (frame skip chans) (length chans) (λ i. length-map chans (λ (ch : List ℤ). at ch (skip + i))) n
+length-woven skip n chans = length-even (λ i. frameOf chans (skip + i)) (length chans) (λ i. frame-length chans (skip + i)) n
 
 -- sample c of frame i
 pub woven-at : (skip n : ℕ) (chans : List (List ℤ)) (i c : ℕ) → i < n → c < length chans → at (wovenFrom skip n chans) (i * length chans + c) ≡ at (getD chans c []) (skip + i)
 unfolding wovenFrom
 woven-at skip n chans i c h l =
-    let P = frame skip chans in
-    let b = around P i n h in
-    let e : i * length chans + c ≡ length (joined P i) + c = omega (arith, length-woven′, mul-comm i (length chans)) in
-    ap (λ (s : List ℤ). at s (i * length chans + c)) (b .1)
-    ∙ ap (at (joined P i ++ (P i ++ b .0))) e
-    ∙ getD-append-add (joined P i) (P i ++ b .0) c (pos 0)
-    ∙ List·getD-append (P i) (b .0) (pos 0) c (omega (arith, length-map chans (λ (ch : List ℤ). at ch (skip + i))))
-    ∙ List·getD-map (λ (ch : List ℤ). at ch (skip + i)) chans c []
-  where
-    length-woven′ : length (joined (frame skip chans) i) ≡ length chans * i
-    length-woven′ = length-even (frame skip chans) (length chans) (λ k. length-map chans (λ (ch : List ℤ). at ch (skip + k))) i
+    joined-at (λ k. frameOf chans (skip + k)) (length chans) (λ k. frame-length chans (skip + k)) n i c (pos 0) h l ∙ frame-at chans (skip + i) c
 
 positive : (n C : ℕ) {q : ℕ} → q < n * C → 0 < C
 positive n zero h = absurd (omega (arith, mul-zero n))
@@ -126,7 +114,7 @@ positive n (suc C) h = omega arith
 -- the channels 0, 1, .. one after another, each put where it lies in the n frames of C channels from `first` on
 unfoldable pub channelsPut : ℕ → ℕ → ℕ → ℕ → List (List ℤ) → ℕ → List ℤ → List ℤ
 channelsPut first skip n C chans zero s = s
-channelsPut first skip n C chans (suc c) s = strided (channelsPut first skip n C chans c s) (first * C + c) C (from skip n (getD chans c []))
+channelsPut first skip n C chans (suc c) s = channelPut first skip n C c (getD chans c []) (channelsPut first skip n C chans c s)
 
 module _ (first skip n C : ℕ) (chans : List (List ℤ)) where
   pub length-put : (c : ℕ) (s : List ℤ) → length (channelsPut first skip n C chans c s) ≡ length s

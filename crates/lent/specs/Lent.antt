@@ -1,5 +1,5 @@
 -- Samples that are lent as numbers or as bytes, four to a sample.
-use Prim.Native.Nat.{ℕ, _+_, _*_, _/_}
+use Prim.Native.Nat.{ℕ, _+_, _*_, _/_, _≤_, _<_}
 use mathlib.Core.List.{List, [], _∷_, _++_, map}
 use lib.ListN.{length, getD, take, drop, set}
 use lib.IntN.{ℤ, pos}
@@ -30,6 +30,14 @@ placed i xs s = take i s ++ (xs ++ drop (i + length xs) s)
 unfoldable pub strided : List ℤ → ℕ → ℕ → List ℤ → List ℤ
 strided s p step [] = s
 strided s p step (x ∷ xs) = strided (set s p x) (p + step) step xs
+
+-- the n samples of a run of 512 from `skip` on fit where channel c of the frames from `first` on lies
+abbrev pub ChannelFits : ℕ → ℕ → ℕ → ℕ → ℕ → List ℤ → Type 0
+ChannelFits first skip n channels c s = (skip + n ≤ 512) × (c < channels) × ((first + n) * channels ≤ length s)
+
+-- and are put there
+abbrev pub channelPut : ℕ → ℕ → ℕ → ℕ → ℕ → List ℤ → List ℤ → List ℤ
+channelPut first skip n channels c run s = strided s (first * channels + c) channels (from skip n run)
 
 -- the n frames of the channels from the frame `skip` on, interleaved
 unfoldable pub wovenFrom : ℕ → ℕ → List (List ℤ) → List ℤ

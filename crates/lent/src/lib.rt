@@ -9,8 +9,7 @@ use write_bytes::put_u32_le;
 ghost use mathlib.Core.Path.{_≡_};
 ghost use Prim.Native.Nat.{_+_, _*_, _<_, _≤_};
 ghost use lib.ListN.{length, set};
-ghost use Rattle.format.specs.Lists.{from};
-ghost use Rattle.lent.specs.Lent.{lentOf, restOf, placed, strided, wovenFrom};
+ghost use Rattle.lent.specs.Lent.{lentOf, restOf, placed, ChannelFits, channelPut, wovenFrom};
 
 pub enum Container {
     Words,
@@ -52,8 +51,8 @@ fn put_strided(
     c: usize,
     run: [i32; 512],
 )
-    requires { ⌜ (skip + n ≤ 512) × (c < channels) × ((first + n) * channels ≤ length (lentOf which (now words) (now bytes))) ⌝ }
-    ensures puts { λ _. ⌜ lentOf which (now (words .exit)) (now (bytes .exit)) ≡ strided (lentOf which (now (words .entry)) (now (bytes .entry))) (first * channels + c) channels (from skip n run) ⌝ }
+    requires { ⌜ ChannelFits first skip n channels c (lentOf which (now words) (now bytes)) ⌝ }
+    ensures puts { λ _. ⌜ lentOf which (now (words .exit)) (now (bytes .exit)) ≡ channelPut first skip n channels c run (lentOf which (now (words .entry)) (now (bytes .entry))) ⌝ }
     ensures keeps { λ _. ⌜ restOf which (now (words .exit)) (now (bytes .exit)) ≡ restOf which (now (words .entry)) (now (bytes .entry)) ⌝ }
 {
     for k in 0..n {
@@ -79,8 +78,8 @@ pub fn put_channel(
     c: usize,
     run: [i32; 512],
 )
-    requires { ⌜ (skip + n ≤ 512) × (c < channels) × ((first + n) * channels ≤ length (lentOf which (now words) (now bytes))) ⌝ }
-    ensures puts { λ _. ⌜ lentOf which (now (words .exit)) (now (bytes .exit)) ≡ strided (lentOf which (now (words .entry)) (now (bytes .entry))) (first * channels + c) channels (from skip n run) ⌝ }
+    requires { ⌜ ChannelFits first skip n channels c (lentOf which (now words) (now bytes)) ⌝ }
+    ensures puts { λ _. ⌜ lentOf which (now (words .exit)) (now (bytes .exit)) ≡ channelPut first skip n channels c run (lentOf which (now (words .entry)) (now (bytes .entry))) ⌝ }
     ensures keeps { λ _. ⌜ restOf which (now (words .exit)) (now (bytes .exit)) ≡ restOf which (now (words .entry)) (now (bytes .entry)) ⌝ }
 {
     if channels == 1 {

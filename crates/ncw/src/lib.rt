@@ -48,7 +48,7 @@ pub extern "C" fn ncw_decode(file: &[u8], samples: &mut [u8]) -> u64
 }
 
 // 0 Auto, 1 Direct, 2 MidSide.
-fn mode_of(mode: u32) -> StereoMode
+pub fn mode_of(mode: u32) -> StereoMode
     ensures { λ r. ⌜ r ≡ modeOf mode ⌝ }
 {
     match mode {

@@ -19,7 +19,7 @@ use Rattle.format.specs.Encoding.{least, width}
 use Rattle.format.specs.Refusals.{refuse}
 use Rattle.format.specs.declared.refusals.Refusal.the-variants.{WidthTooSmall}
 use Rattle.format.specs.declared.refusals.Checked.the-variants.{Fine, No}
-use Rattle.laws.proofs.Tests.{never}
+use Rattle.laws.proofs.Tests.{never, and-no}
 use Rattle.laws.proofs.Parts.{left-now}
 use Rattle.packing.specs.Fit.{checkFit}
 use Rattle.packing.proofs.Definitions.{least-here, least-next, least-last}
@@ -36,11 +36,7 @@ mag-pos (negsuc n) f t = never (rw (toZ-ofZ w32 (negsuc n) f) at t)
 -- two below p where the larger is
 both-by : (m n p : ℕ) (t : Bool) (e : Bool) → m ≤ n → ltb n p ≡ t → (ltb m p && (t && e)) ≡ (t && e)
 both-by m n p true e h q = ap (λ (u : Bool). u && e) (lt-ltb m p (omega (arith, ltb-true n p q)))
-both-by m n p false e h q = none (ltb m p)
-  where
-    none : (t : Bool) → (t && false) ≡ false
-    none true = refl
-    none false = refl
+both-by m n p false e h q = and-no (ltb m p) false refl
 
 swapped : (a b e : Bool) → (a && (b && e)) ≡ (b && (a && e))
 swapped true true e = refl

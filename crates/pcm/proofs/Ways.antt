@@ -8,13 +8,13 @@ use native.Mathlib.Nat.{div-add-mod}
 use lib.ListN.{length}
 use lib.IntN.{ℤ}
 use lib.Dec.{eqb, ltb}
-use borrow.Author.Tests.{lt-ltb, le-ltb, eq-eqb, ne-eqb}
+use borrow.Author.Tests.{le-ltb, eq-eqb, ne-eqb}
 use Rattle.format.specs.Lists.{every, isIn}
 use Rattle.format.specs.Units.{within, depthOf, framesIn}
 use Rattle.format.specs.Refusals.{refuse, _then_}
-use Rattle.format.specs.Encoding.{checkSpec, checkSamples}
+use Rattle.format.specs.Encoding.{checkSamples}
 use Rattle.format.specs.declared.refusals.Refusal.{Refusal}
-use Rattle.format.specs.declared.refusals.Refusal.the-variants.{WriterSpec, IncompleteFrame, ValueOutside, TooManyFrames}
+use Rattle.format.specs.declared.refusals.Refusal.the-variants.{IncompleteFrame, ValueOutside, TooManyFrames}
 use Rattle.format.specs.declared.refusals.Checked.{Checked}
 use Rattle.format.specs.declared.refusals.Checked.the-variants.{Fine, No}
 use Rattle.format.specs.declared.settings.PcmSpec.{PcmSpec}
@@ -24,31 +24,7 @@ use Rattle.format.specs.declared.units.Framed.{Framed}
 use Rattle.format.specs.declared.units.Framed.the-variants.{Whole, Incomplete, TooMany}
 use Rattle.laws.proofs.Tests.{never}
 
--- ---- 30
-module _ (p : PcmSpec) (most : ℕ) (listed : Bool) where
-  pub no-channel : p .channels ≡ 0 → (depths : List ℕ) → listed ≡ isIn (p .«bits_per_sample») depths → No WriterSpec ≡ checkSpec most depths p
-  unfolding checkSpec refuse _then_
-  no-channel h depths e = rw (eq-eqb (p .channels) 0 h)
-
-  module _ (some : p .channels ≡ 0 → ⊥) where
-    pub many-channels : most < p .channels → (depths : List ℕ) → listed ≡ isIn (p .«bits_per_sample») depths → No WriterSpec ≡ checkSpec most depths p
-    unfolding checkSpec refuse _then_
-    many-channels h depths e = rw (ne-eqb (p .channels) 0 some, lt-ltb most (p .channels) h)
-
-    module _ (few : p .channels ≤ most) where
-      pub other-depth : listed ≡ false → (depths : List ℕ) → listed ≡ isIn (p .«bits_per_sample») depths → No WriterSpec ≡ checkSpec most depths p
-      unfolding checkSpec refuse _then_
-      other-depth h depths e = rw (ne-eqb (p .channels) 0 some, le-ltb most (p .channels) few, ← e, h)
-
-      module _ (depth : listed ≡ true) where
-        pub no-rate : p .«sample_rate» ≡ 0 → (depths : List ℕ) → listed ≡ isIn (p .«bits_per_sample») depths → No WriterSpec ≡ checkSpec most depths p
-        unfolding checkSpec refuse _then_
-        no-rate h depths e = rw (ne-eqb (p .channels) 0 some, le-ltb most (p .channels) few, ← e, depth, eq-eqb (p .«sample_rate») 0 h)
-
-        pub spec-fine : (p .«sample_rate» ≡ 0 → ⊥) → (depths : List ℕ) → listed ≡ isIn (p .«bits_per_sample») depths → Fine ≡ checkSpec most depths p
-        unfolding checkSpec refuse _then_
-        spec-fine h depths e = rw (ne-eqb (p .channels) 0 some, le-ltb most (p .channels) few, ← e, depth, ne-eqb (p .«sample_rate») 0 h)
-
+-- ---- 30: the depths
 module _ (b : ℕ) where
   pub is-16 : b ≡ 16 → true ≡ isIn b (16 ∷ 24 ∷ [])
   unfolding isIn

@@ -1,41 +1,53 @@
-// Recorded lists: the programs that go through one print a line for each case, and first of all what a spoiled room looks like.
-mod reading;
-mod rewriting;
-mod writing;
+// The list of recorded answers, read item by item: its numbers, what it puts into a space, and what was recorded of an answer. Behind the list's end every byte reads as 0.
+mod answers;
+mod drawing;
+mod room;
 
-pub enum List {
-    Files,
-    Walks,
-    Samples,
-    Templates,
+pub use answers::Recorded;
+pub use answers::Said;
+pub use answers::Verdict;
+pub use answers::is_recorded;
+pub use answers::judged;
+pub use answers::of_answer;
+pub use answers::of_result;
+pub use answers::read_recorded;
+pub use drawing::Drawn;
+pub use drawing::draw;
+pub use drawing::read_drawn;
+use read_bytes::read_u16_le;
+use read_bytes::read_u32_le;
+pub use room::fill;
+pub use room::spoil;
+
+fn wide(x: u8) -> u32 {
+    x as u32
 }
 
-fn print_spoiled_rooms(list: List) {
-    match list {
-        List::Files => reading::print_spoiled_rooms(),
-        List::Walks => reading::print_spoiled_walks(),
-        List::Samples => writing::print_spoiled_rooms(),
-        List::Templates => writing::print_spoiled_rooms(),
-    }
+pub fn read_u8(list: i32) -> u32 {
+    let mut bytes = [0u8; 1];
+    io::read_full(list, &mut bytes);
+    wide(bytes[0])
 }
 
-// Whether there was one more case.
-fn next_case(list: List) -> bool {
-    match list {
-        List::Files => reading::next_case(list),
-        List::Walks => reading::next_case(list),
-        List::Samples => writing::next_case(),
-        List::Templates => rewriting::next_case(),
-    }
+pub fn read_u16(list: i32) -> u16 {
+    let mut bytes = [0u8; 2];
+    io::read_full(list, &mut bytes);
+    read_u16_le(&bytes, 0)
 }
 
-// Every case; then how many there were. Turns are counted, since nothing says that an input ends.
-pub fn run(list: List) {
-    print_spoiled_rooms(list);
-    let mut cases: u64 = 0;
-    while cases < 1000 && next_case(list) {
-        cases += 1;
+pub fn read_u32(list: i32) -> u32 {
+    let mut bytes = [0u8; 4];
+    io::read_full(list, &mut bytes);
+    read_u32_le(&bytes, 0)
+}
+
+// The list's next n bytes, from `at` on in the space that is lent, where they lie within it.
+pub fn put(list: i32, space: &mut [u8], at: usize, n: usize) {
+    if space.len() < at {
+        return;
     }
-    report::print_number(cases);
-    report::print(b" cases\n");
+    if space.len() - at < n {
+        return;
+    }
+    io::read_full(list, &mut space[at..at + n]);
 }

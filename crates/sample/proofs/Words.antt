@@ -11,6 +11,7 @@ use mir.Val.{SFits, toZ, ofZ}
 use mir.ValLaws.{toZ-ofZ}
 use borrow.Author.Tests.{ltb-true}
 use Rattle.format.specs.Numbers.{value, codeOf, plus, minus}
+use Rattle.laws.proofs.Tests.{never}
 use Rattle.laws.proofs.Wrap.{add-bits, sub-bits}
 
 -- the format's reading of 32 bits is the machine's
@@ -25,7 +26,7 @@ bits-neg (negsuc n) f t = omega (arith, f .sfits)
 
 pub bits-pos : (x : ℤ) → SFits w32 x → ltZ (toZ w32 (ofZ w32 x)) (pos 0) ≡ false → ofZ w32 x < 2 ^ 31
 bits-pos (pos n) f t = f .sfits
-bits-pos (negsuc n) f t = let u : true ≡ false = rw (toZ-ofZ w32 (negsuc n) f) at t in let z : _≡_ {A = ℕ} 0 1 = cc in omega arith
+bits-pos (negsuc n) f t = never (rw (toZ-ofZ w32 (negsuc n) f) at t)
 
 pub not-not : {n : ℕ} → n < 2 ^ 32 → 4294967295 - (4294967295 - n) ≡ n
 not-not h = omega arith

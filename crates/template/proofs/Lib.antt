@@ -1,5 +1,4 @@
--- the groups of a template; what its checks answer at each way out; the file written, and what re-encoding answers
+-- the groups of a template; what its checks answer at each way out; the file written
 pub mod Groups
 pub mod Stages
 pub mod Filling
-pub mod Ways

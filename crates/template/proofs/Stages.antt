@@ -7,7 +7,7 @@ use native.Mathlib.Omega.{arith}
 use lib.IntN.{ℤ}
 use lib.ListN.{length}
 use lib.Dec.{leb}
-use borrow.Author.Tests.{lt-ltb, le-ltb, le-leb, lt-leb}
+use borrow.Author.Tests.{le-ltb, le-leb, lt-leb}
 use Rattle.format.specs.Lists.{anyBelow}
 use Rattle.format.specs.Header.{isSignature, fieldsOf, groupsOf, entry, group}
 use Rattle.format.specs.Refusals.{refuse, _then_, inOrder}
@@ -15,7 +15,7 @@ use Rattle.format.specs.Opening.{checkOffsets}
 use Rattle.format.specs.Encoding.{groupIn, checkSamples}
 use Rattle.format.specs.Reencoding.{checkReencoder, checkSame, checkBounds, checkRising, checkTemplate, checkNewGroup, checkReencode}
 use Rattle.format.specs.declared.refusals.Refusal.{Refusal}
-use Rattle.format.specs.declared.refusals.Refusal.the-variants.{TooShort, FileSignature, TemplateBounds}
+use Rattle.format.specs.declared.refusals.Refusal.the-variants.{TemplateBounds}
 use Rattle.format.specs.declared.refusals.Checked.{Checked}
 use Rattle.format.specs.declared.refusals.Checked.the-variants.{Fine, No}
 use Rattle.format.specs.declared.settings.PcmSpec.{PcmSpec}
@@ -23,7 +23,7 @@ use Rattle.format.specs.declared.units.Frames.{Frames}
 use Rattle.format.specs.declared.answers.Fields.{Fields}
 use Rattle.laws.proofs.Opened.{data-past, data-within}
 use Rattle.laws.proofs.TemplateFiles.{long-ok}
-use Rattle.header.proofs.Chain.{any-found, any-more}
+use Rattle.laws.proofs.Chain.{any-found, any-more}
 
 -- ---- 41: what opening refuses by other numbers
 
@@ -83,64 +83,21 @@ module _ (t : List ℕ) (h : Fields) (k : ℕ) where
       let e : k ≡ n = omega arith in
       sym (ap (anyBelow (falls t h)) (sym e) ∙ none)
 
--- ---- 1, 2, 40, 41, 42
-module _ (p : PcmSpec) (s : List ℤ) (t : List ℕ) where
-  pub template-short : length t < 120 → No TooShort ≡ checkTemplate p s t
-  unfolding checkTemplate refuse _then_
-  template-short l = rw (lt-ltb (length t) 120 l)
+-- ---- 40, 41, 42, after 1 and 2
+pub template-signed : (p : PcmSpec) (s : List ℤ) (t : List ℕ) → 120 ≤ length t → (m : Bool) → m ≡ isSignature t → m ≡ true
+    → (h : Fields) → h ≡ fieldsOf t → (f : Frames) → f .0 ≡ length s / p .channels
+    → (k : Checked) → k ≡ (checkSame p (f .0) h then checkBounds h (length t) then checkRising t h) → k ≡ checkTemplate p s t
+unfolding checkTemplate refuse _then_
+template-signed p s t long m signed is h reads f counts k e = rw (le-ltb (length t) 120 long, ← signed, is, ← reads, ← counts) e
 
-  module _ (long : 120 ≤ length t) (m : Bool) (signed : m ≡ isSignature t) where
-    pub template-unsigned : m ≡ false → No FileSignature ≡ checkTemplate p s t
-    unfolding checkTemplate refuse _then_
-    template-unsigned e = rw (le-ltb (length t) 120 long, ← signed, e)
+-- ---- the template's groups, after 30 to 33 and the template
+pub template-long : (p : PcmSpec) (s : List ℤ) (t : List ℕ) (d : Checked) → d ≡ checkTemplate p s t → d ≡ Fine → 32 ≤ length t
+template-long p s t d template passes = omega (arith, long-ok p s t (sym template ∙ passes))
 
-    module _ (yes : m ≡ true) (h : Fields) (reads : h ≡ fieldsOf t) (f : Frames) (counts : f .0 ≡ length s / p .channels) (a : Checked) (same : a ≡ checkSame p (f .0) h) where
-      pub template-differs : (r : Refusal) → a ≡ No r → No r ≡ checkTemplate p s t
-      unfolding checkTemplate refuse _then_
-      template-differs r e = rw (le-ltb (length t) 120 long, ← signed, yes, ← reads, ← counts, ← same, e)
-
-      module _ (fine : a ≡ Fine) (b : Checked) (bounds : b ≡ checkBounds h (length t)) where
-        pub template-beyond : (r : Refusal) → b ≡ No r → No r ≡ checkTemplate p s t
-        unfolding checkTemplate refuse _then_
-        template-beyond r e = rw (le-ltb (length t) 120 long, ← signed, yes, ← reads, ← counts, ← same, fine, ← bounds, e)
-
-        pub template-rest : b ≡ Fine → (d : Checked) → d ≡ checkRising t h → d ≡ checkTemplate p s t
-        unfolding checkTemplate refuse _then_
-        template-rest e d rises = rw (le-ltb (length t) 120 long, ← signed, yes, ← reads, ← counts, ← same, fine, ← bounds, e) rises
-
--- ---- 30 to 33, the template, its groups
-pub spec-passed : (p : PcmSpec) (a : Checked) → a ≡ checkReencoder p → a ≡ Fine → checkReencoder p ≡ Fine
-spec-passed p a spec fine = sym spec ∙ fine
-
-pub samples-passed : (p : PcmSpec) (s : List ℤ) (b : Checked) → b ≡ checkSamples p s → b ≡ Fine → checkSamples p s ≡ Fine
-samples-passed p s b samples fine = sym samples ∙ fine
-
-module _ (p : PcmSpec) (s : List ℤ) (t : List ℕ) (a : Checked) (spec : a ≡ checkReencoder p) where
-  pub spec-refused : (r : Refusal) → a ≡ No r → No r ≡ checkReencode p s t
-  unfolding checkReencode _then_
-  spec-refused r e = rw (← spec, e)
-
-  module _ (fine : a ≡ Fine) (b : Checked) (samples : b ≡ checkSamples p s) where
-    pub samples-refused : (r : Refusal) → b ≡ No r → No r ≡ checkReencode p s t
-    unfolding checkReencode _then_
-    samples-refused r e = rw (← spec, fine, ← samples, e)
-
-    module _ (good : b ≡ Fine) (d : Checked) (template : d ≡ checkTemplate p s t) where
-      pub template-refused : (r : Refusal) → d ≡ No r → No r ≡ checkReencode p s t
-      unfolding checkReencode _then_
-      template-refused r e = rw (← spec, fine, ← samples, good, ← template, e)
-
-      pub groups-rest :
-          d ≡ Fine
-          → (h : Fields) → h ≡ fieldsOf t
-          → (k : Checked) → k ≡ inOrder (λ g. checkNewGroup (h .depth) (h .channels) (group t h g) (groupIn (h .channels) s g)) (groupsOf (h .frames))
-          → k ≡ checkReencode p s t
-      unfolding checkReencode _then_
-      groups-rest passes h reads k e = rw (← spec, fine, ← samples, good, ← template, passes, ← reads) e
-
-module _ (p : PcmSpec) (s : List ℤ) (t : List ℕ) (d : Checked) (template : d ≡ checkTemplate p s t) (passes : d ≡ Fine) where
-  pub template-passed : checkTemplate p s t ≡ Fine
-  template-passed = sym template ∙ passes
-
-  pub template-long : 32 ≤ length t
-  template-long = omega (arith, long-ok p s t template-passed)
+pub groups-rest : (p : PcmSpec) (s : List ℤ) (t : List ℕ) (h : Fields) → h ≡ fieldsOf t
+    → (k : Checked)
+    → k ≡ (checkReencoder p then checkSamples p s then checkTemplate p s t
+    then inOrder (λ g. checkNewGroup (h .depth) (h .channels) (group t h g) (groupIn (h .channels) s g)) (groupsOf (h .frames)))
+    → k ≡ checkReencode p s t
+unfolding checkReencode
+groups-rest p s t h reads k e = rw (← reads) e

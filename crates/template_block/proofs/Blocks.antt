@@ -11,7 +11,7 @@ use lib.Seq.{length-take-le, take-add, sets}
 use mir.Syntax.{w16, w32}
 use mir.Val.{SFits, toZ, ofZ}
 use mir.ValLaws.{toZ-ofZ}
-use borrow.Author.Tests.{lt-ltb, le-ltb, eq-eqb, ne-eqb}
+use borrow.Author.Tests.{lt-ltb, le-ltb, ne-eqb}
 use borrow.Rule.Slice.PartMut.{putMid}
 use Rattle.format.specs.Lists.{from, over}
 use Rattle.format.specs.Numbers.{numAt, le, codeOf}
@@ -25,7 +25,7 @@ use Rattle.format.specs.declared.packed.Coding.{Coding}
 use Rattle.format.specs.declared.packed.Coding.the-variants.{Differences, Raw, Beyond}
 use Rattle.format.specs.declared.refusals.Checked.{Checked}
 use Rattle.format.specs.declared.refusals.Checked.the-variants.{Fine, No}
-use Rattle.format.specs.declared.refusals.Refusal.the-variants.{TooShort, BlockSignature, BitsWord, TemplateBits, TemplateFlags, WidthTooSmall}
+use Rattle.format.specs.declared.refusals.Refusal.the-variants.{TooShort, BitsWord, TemplateFlags, WidthTooSmall}
 use Rattle.laws.proofs.Checks.{pass}
 use Rattle.laws.proofs.Parts.{length-from, meet}
 use Rattle.laws.proofs.Digits.{length-le}
@@ -41,24 +41,8 @@ use Rattle.packing.specs.Fit.{checkFit}
 -- ---- the checks
 
 module _ (depth : ℕ) (r : List ℕ) (xs : List ℤ) where
-  pub no-header : length r < 16 → No TooShort ≡ checkNewBlock depth r xs
-  unfolding checkNewBlock refuse _then_
-  no-header l = rw (lt-ltb (length r) 16 l)
-
-  pub no-mark : (m : Bool) → 16 ≤ length r → m ≡ isBlock r → m ≡ false → No BlockSignature ≡ checkNewBlock depth r xs
-  unfolding checkNewBlock refuse _then_
-  no-mark m l e n = rw (le-ltb (length r) 16 l, ← e, n)
-
   -- a header with the mark, and its bits word
   module _ (long : 16 ≤ length r) (m : Bool) (mark : m ≡ isBlock r) (marked : m ≡ true) (w : ℕ) (word : w ≡ numAt 8 2 r) where
-    pub no-bits : w ≡ 0 → No TemplateBits ≡ checkNewBlock depth r xs
-    unfolding checkNewBlock refuse _then_
-    no-bits e = rw (le-ltb (length r) 16 long, ← mark, marked, ← word, eq-eqb w 0 e)
-
-    pub one-bit : (w ≡ 0 → ⊥) → w ≡ 1 → No TemplateBits ≡ checkNewBlock depth r xs
-    unfolding checkNewBlock refuse _then_
-    one-bit z e = rw (le-ltb (length r) 16 long, ← mark, marked, ← word, ne-eqb w 0 z, eq-eqb w 1 e)
-
     -- of two bits or more
     module _ (not0 : w ≡ 0 → ⊥) (not1 : w ≡ 1 → ⊥) (b : BlockHeader) (header : b ≡ blockHeader r) where
       flags-are : numAt 10 2 r ≡ b .flags

@@ -53,51 +53,46 @@ module _ (s : List ℕ) (g : ℕ) (h : Fields) (reads : h ≡ fieldsOf s) where
   in-step n m count counts = counts ∙ rw (count, reads) refl
 
 -- ---- a step's checks
-module _ (s : List ℕ) (g room : ℕ) (a : Checked) (says : a ≡ checkOpen s) where
-  pub walk-closed : (r : Refusal) → a ≡ No r → No r ≡ checkWalk s g room
+module _ (s : List ℕ) (g room : ℕ) (a : Checked) (says : a ≡ checkOpen s) (fine : a ≡ Fine) (h : Fields) (reads : h ≡ fieldsOf s) (groups : ℕ) (all : groups ≡ groupsOf (h .frames)) where
+  pub walk-depth : h .depth ≤ 32
+  walk-depth = depth-32 s h (sym says ∙ fine) reads
+
+  pub walk-done : groups ≤ g → Fine ≡ checkWalk s g room
   unfolding checkWalk _then_
-  walk-closed r t = rw (← says, t)
+  walk-done l = rw (← says, fine, none-left s g h reads groups all l)
 
-  module _ (fine : a ≡ Fine) (h : Fields) (reads : h ≡ fieldsOf s) (groups : ℕ) (all : groups ≡ groupsOf (h .frames)) where
-    pub walk-depth : h .depth ≤ 32
-    walk-depth = depth-32 s h (sym says ∙ fine) reads
+  module _ (below : g < groups) (p e : ℕ) (starts : p ≡ h .start + entry s h g) (ends : e ≡ h .start + entry s h (g + 1)) where
+    pub walk-rises : p ≤ e
+    walk-rises = part-rises s h (sym says ∙ fine) reads groups g p e all below starts ends
 
-    pub walk-done : groups ≤ g → Fine ≡ checkWalk s g room
-    unfolding checkWalk _then_
-    walk-done l = rw (← says, fine, none-left s g h reads groups all l)
+    pub walk-within : e ≤ length s
+    walk-within = part-within s h (sym says ∙ fine) reads groups g p e all below starts ends
 
-    module _ (below : g < groups) (p e : ℕ) (starts : p ≡ h .start + entry s h g) (ends : e ≡ h .start + entry s h (g + 1)) where
-      pub walk-rises : p ≤ e
-      walk-rises = part-rises s h (sym says ∙ fine) reads groups g p e all below starts ends
+    module _ (f : SampleFormat) (format : f ≡ formatOf s h) (k : Checked) (checked : k ≡ checkGroup h f (take (e - p) (drop p s))) where
+      checks : checkStep s g ≡ k
+      unfolding checkStep
+      checks = rw (← reads, ← format) (part-checked s h (sym says ∙ fine) reads groups g p e all below starts ends f k k checked refl)
 
-      pub walk-within : e ≤ length s
-      walk-within = part-within s h (sym says ∙ fine) reads groups g p e all below starts ends
+      into : (c : Checked) → checkStepInto s g room ≡ c → checkWalk s g room ≡ c
+      unfolding checkWalk _then_
+      into c t = rw (← says, fine, one-left s g h reads groups all below) t
 
-      module _ (f : SampleFormat) (format : f ≡ formatOf s h) (k : Checked) (checked : k ≡ checkGroup h f (take (e - p) (drop p s))) where
-        checks : checkStep s g ≡ k
-        unfolding checkStep
-        checks = rw (← reads, ← format) (part-checked s h (sym says ∙ fine) reads groups g p e all below starts ends f k k checked refl)
+      pub walk-refused : (r : Refusal) → k ≡ No r → No r ≡ checkWalk s g room
+      unfolding checkStepInto _then_
+      walk-refused r t = sym (into (No r) (rw (checks, t)))
 
-        into : (c : Checked) → checkStepInto s g room ≡ c → checkWalk s g room ≡ c
-        unfolding checkWalk _then_
-        into c t = rw (← says, fine, one-left s g h reads groups all below) t
-
-        pub walk-refused : (r : Refusal) → k ≡ No r → No r ≡ checkWalk s g room
+      module _ (good : k ≡ Fine) (n : ℕ) (m : Samples) (count : n ≡ active (h .frames) g) (counts : m ≡ samplesIn (record { 0 = n }) (h .channels)) where
+        fits : (b : Bool) → ltb room (m .0) ≡ b → checkStepInto s g room ≡ refuse b OutputTooShort
         unfolding checkStepInto _then_
-        walk-refused r t = sym (into (No r) (rw (checks, t)))
+        fits b t = rw (checks, good) (ap (λ (x : Bool). refuse x OutputTooShort) (ap (λ (x : Samples). ltb room (x .0)) (sym (in-step s g h reads n m count counts)) ∙ t))
 
-        module _ (good : k ≡ Fine) (n : ℕ) (m : Samples) (count : n ≡ active (h .frames) g) (counts : m ≡ samplesIn (record { 0 = n }) (h .channels)) where
-          fits : (b : Bool) → ltb room (m .0) ≡ b → checkStepInto s g room ≡ refuse b OutputTooShort
-          unfolding checkStepInto _then_
-          fits b t = rw (checks, good) (ap (λ (x : Bool). refuse x OutputTooShort) (ap (λ (x : Samples). ltb room (x .0)) (sym (in-step s g h reads n m count counts)) ∙ t))
+        pub walk-short : room < m .0 → No OutputTooShort ≡ checkWalk s g room
+        unfolding refuse
+        walk-short l = sym (into (No OutputTooShort) (fits true (lt-ltb room (m .0) l)))
 
-          pub walk-short : room < m .0 → No OutputTooShort ≡ checkWalk s g room
-          unfolding refuse
-          walk-short l = sym (into (No OutputTooShort) (fits true (lt-ltb room (m .0) l)))
-
-          pub walk-fine : m .0 ≤ room → Fine ≡ checkWalk s g room
-          unfolding refuse
-          walk-fine l = sym (into Fine (fits false (le-ltb room (m .0) l)))
+        pub walk-fine : m .0 ≤ room → Fine ≡ checkWalk s g room
+        unfolding refuse
+        walk-fine l = sym (into Fine (fits false (le-ltb room (m .0) l)))
 
 -- ---- and its answer
 placed-front : (xs s : List ℤ) → placed 0 xs s ≡ over xs s

@@ -16,7 +16,7 @@ use Rattle.format.specs.declared.settings.StereoMode.{StereoMode}
 use Rattle.laws.proofs.Checks.{found-below}
 use Rattle.laws.proofs.Channels.{active-low}
 use Rattle.laws.proofs.Parts.{one-more, length-mono}
-use Rattle.header.proofs.Chain.{any-more, any-found}
+use Rattle.laws.proofs.Chain.{any-more, any-found}
 use Rattle.lent.specs.Lent.{framesFrom}
 use Rattle.writer.specs.Accepted.{Accepted}
 use Rattle.new_group.specs.Writable.{Writable}

@@ -10,7 +10,6 @@ use Rattle.format.specs.Lists.{anyBelow}
 use Rattle.format.specs.Header.{groupsOf}
 use Rattle.format.specs.Refusals.{refuse, _then_}
 use Rattle.format.specs.Encoding.{plain, parity, groupIn, checkEncoder, checkSamples, isMidSide, checkStereo}
-use Rattle.format.specs.declared.refusals.Refusal.{Refusal}
 use Rattle.format.specs.declared.refusals.Refusal.the-variants.{NotStereo, ParityDiffers}
 use Rattle.format.specs.declared.refusals.Checked.{Checked}
 use Rattle.format.specs.declared.refusals.Checked.the-variants.{Fine, No}
@@ -66,30 +65,8 @@ module _ (p : PcmSpec) (mode : StereoMode) (s : List ℤ) where
 abbrev pub checkInput : PcmSpec → StereoMode → List ℤ → Checked
 checkInput p mode s = checkEncoder p then checkSamples p s then checkStereo p mode s
 
-module _ (p : PcmSpec) (mode : StereoMode) (s : List ℤ) (a : Checked) (spec : a ≡ checkEncoder p) where
-  pub input-spec : (r : Refusal) → a ≡ No r → No r ≡ checkInput p mode s
-  unfolding _then_
-  input-spec r t = rw (← spec, t)
-
-  module _ (fine : a ≡ Fine) where
-    pub input-some : 1 ≤ p .channels
-    input-some = encoder-ok p (sym spec ∙ fine) .some
-
-    module _ (b : Checked) (samples : b ≡ checkSamples p s) where
-      pub input-samples : (r : Refusal) → b ≡ No r → No r ≡ checkInput p mode s
-      unfolding _then_
-      input-samples r t = rw (← spec, fine, ← samples, t)
-
-      module _ (good : b ≡ Fine) where
-        pub input-whole : length s ≡ p .channels * (length s / p .channels)
-        input-whole = frames-ok p s (sym samples ∙ good)
-
-        pub input-count : length s / p .channels < 4294967296
-        input-count = count-ok p s (sym samples ∙ good)
-
-        pub input-rest : (k : Checked) → k ≡ checkStereo p mode s → k ≡ checkInput p mode s
-        unfolding _then_
-        input-rest k e = rw (← spec, fine, ← samples, good) e
+pub input-some : (p : PcmSpec) (a : Checked) → a ≡ checkEncoder p → a ≡ Fine → 1 ≤ p .channels
+input-some p a spec fine = encoder-ok p (sym spec ∙ fine) .some
 
 -- what they leave
 pub accepted : (p : PcmSpec) (mode : StereoMode) (s : List ℤ) → checkInput p mode s ≡ Fine → Accepted p mode s

@@ -30,7 +30,7 @@ impl Call {
     }
 
     /// The most bytes that a file of so many samples can have.
-    fn longest(&self) -> usize {
+    pub fn longest(&self) -> usize {
         124 + self.samples.len().div_ceil(2048) * (4 + 2 * (16 + 64 * 24))
     }
 }

@@ -11,16 +11,19 @@ fn planted() -> &'static str {
 }
 
 pub fn decode(file: &[u8], samples: &mut [u8]) -> u64 {
+    read_past(file);
     spoiled(ours::boundary::decode(file, samples), samples)
 }
 
 pub fn encode(samples: &[u8], channels: u16, depth: u16, rate: u32, mode: u32, file: &mut [u8]) -> u64 {
+    read_past(samples);
     let answer = ours::boundary::encode(samples, channels, depth, rate, mode, file);
     spoil_input("a byte of the samples changed", samples);
     spoiled(answer, file)
 }
 
 pub fn reencode(samples: &[u8], channels: u16, depth: u16, rate: u32, template: &[u8], file: &mut [u8]) -> u64 {
+    read_past(template);
     let answer = ours::boundary::reencode(samples, channels, depth, rate, template, file);
     spoil_input("a byte of the samples changed", samples);
     spoil_input("a byte of the template changed", template);
@@ -32,6 +35,14 @@ fn spoil_input(name: &str, lent: &[u8]) {
     if planted() == name && !lent.is_empty() {
         // SAFETY: there is none. A call by pointers could do this, and it is planted to see that it is found.
         unsafe { lent.as_ptr().cast_mut().write_volatile(lent[0] ^ 0x40) }
+    }
+}
+
+/// Reads a byte more than was lent: compare can't see that, the fuzzer does.
+fn read_past(lent: &[u8]) {
+    if planted() == "a read past the end" && !lent.is_empty() {
+        // SAFETY: there is none, as above.
+        unsafe { lent.as_ptr().add(lent.len()).read_volatile() };
     }
 }
 

@@ -1,14 +1,18 @@
 -- `block::check_block` meets its contract: a law for each way out.
-use Rattle.block.proofs.Checking.{no-header, no-mark, other-format, side-alone, bits-beyond, no-values, all-fine, known-by}
 use borrow.Author.Needs.{needs}
+use Rattle.format.specs.Decoding.{checkBlock}
+use Rattle.laws.proofs.Chain.{chain, flags}
+use Rattle.block.proofs.Checking.{other-format, side-alone, bits-beyond, no-values, all-fine, known-by}
 use Rattle.block.proofs.check_block.Statement.{statement}
 use Rattle.block.proofs.check_block.Tie as tie
 
 returns : tie.Need-returns
-returns c = search (needs, no-header)
+unfolding checkBlock
+returns c = search chain
 
 returns-2 : tie.Need-returns-2
-returns-2 c = search (needs, no-mark)
+unfolding checkBlock
+returns-2 c = search (chain, flags)
 
 returns-3 : tie.Need-returns-3
 returns-3 c = search (needs, other-format)

@@ -4,7 +4,7 @@ use mathlib.Core.Bool.{false}
 use native.Mathlib.Omega.{arith}
 use Rattle.format.specs.Lists.{anyBelow}
 use Rattle.format.specs.Opening.{badEntry}
-use Rattle.header.proofs.Chain.{any-none, any-more, any-found}
+use Rattle.laws.proofs.Chain.{any-none, any-more, any-found}
 use Rattle.header.proofs.any_bad.Statement.{statement}
 use Rattle.header.proofs.any_bad.Tie as tie
 

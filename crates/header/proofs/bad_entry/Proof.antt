@@ -1,6 +1,6 @@
 use borrow.Author.Needs.{needs}
 use Rattle.format.specs.Opening.{badEntry}
-use Rattle.header.proofs.Chain.{either}
+use Rattle.laws.proofs.Chain.{either}
 use Rattle.header.proofs.bad_entry.Statement.{statement}
 use Rattle.header.proofs.bad_entry.Tie as tie
 

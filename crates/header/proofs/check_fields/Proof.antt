@@ -1,6 +1,6 @@
 use borrow.Author.Needs.{needs}
 use Rattle.format.specs.Opening.{checkFields}
-use Rattle.header.proofs.Chain.{chain, flags}
+use Rattle.laws.proofs.Chain.{chain, flags}
 use Rattle.header.proofs.check_fields.Statement.{statement}
 use Rattle.header.proofs.check_fields.Tie as tie
 

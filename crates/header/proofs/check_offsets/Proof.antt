@@ -1,6 +1,6 @@
 use borrow.Author.Needs.{needs}
 use Rattle.format.specs.Opening.{checkOffsets}
-use Rattle.header.proofs.Chain.{chain}
+use Rattle.laws.proofs.Chain.{chain}
 use Rattle.header.proofs.check_offsets.Statement.{statement}
 use Rattle.header.proofs.check_offsets.Tie as tie
 

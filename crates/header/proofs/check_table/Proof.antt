@@ -1,6 +1,6 @@
 use borrow.Author.Needs.{needs}
 use Rattle.format.specs.Opening.{checkTable}
-use Rattle.header.proofs.Chain.{chain, flags, any-zero}
+use Rattle.laws.proofs.Chain.{chain, flags, any-zero}
 use Rattle.header.proofs.check_table.Statement.{statement}
 use Rattle.header.proofs.check_table.Tie as tie
 

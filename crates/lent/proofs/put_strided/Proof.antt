@@ -4,9 +4,8 @@ use Prim.Native.Nat.{_+_, _-_, _*_, _^_, _≤_, _<_}
 use native.Mathlib.Omega.{arith}
 use lib.ListN.{length}
 use borrow.Author.Needs.{needs}
-use Rattle.format.specs.Lists.{from}
 use Rattle.sample.proofs.Words.{given}
-use Rattle.lent.specs.Lent.{lentOf, restOf, strided}
+use Rattle.lent.specs.Lent.{lentOf, restOf, channelPut}
 use Rattle.lent.proofs.Laws.{count-lt}
 use Rattle.lent.proofs.Weave.{length-strided}
 use Rattle.lent.proofs.Runs.{frame-le, place-in, strided-none, strided-turn}
@@ -18,7 +17,7 @@ Inv-loop which words₀ bytes₀ first skip n channels c run k₀ words bytes k 
     (k ≤ n)
     × (length words ≡ length words₀)
     × (length bytes ≡ length bytes₀)
-    × (lentOf which words bytes ≡ strided (lentOf which words₀ bytes₀) (first * channels + c) channels (from skip k run))
+    × (lentOf which words bytes ≡ channelPut first skip k channels c run (lentOf which words₀ bytes₀))
     × (restOf which words bytes ≡ restOf which words₀ bytes₀)
 
 abbrev μ-loop : tie.MeasureT-loop

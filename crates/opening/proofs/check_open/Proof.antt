@@ -1,31 +1,35 @@
 use borrow.Author.Needs.{needs}
-use Rattle.opening.proofs.Ways.{out-short, out-signature, out-fields, out-offsets, out-table, out-first, in-table, in-first}
+use Rattle.format.specs.Opening.{checkOpen}
+use Rattle.laws.proofs.Chain.{chain, flags, stages}
+use Rattle.opening.proofs.Ways.{out-signed, in-table, in-first}
 use Rattle.opening.proofs.check_open.Statement.{statement}
 use Rattle.opening.proofs.check_open.Tie as tie
 
 returns : tie.Need-returns
-returns c = search out-short
+unfolding checkOpen
+returns c = search chain
 
 returns-2 : tie.Need-returns-2
-returns-2 c = search out-signature
+unfolding checkOpen
+returns-2 c = search (chain, flags)
 
 returns-3 : tie.Need-returns-3
-returns-3 c = search out-fields
+returns-3 c = search (stages, out-signed)
 
 returns-4 : tie.Need-returns-4
-returns-4 c = search out-offsets
+returns-4 c = search (stages, out-signed)
 
 check-table-requires : tie.Need-check-table-requires
 check-table-requires c κs = search in-table
 
 returns-5 : tie.Need-returns-5
-returns-5 c = search out-table
+returns-5 c = search (stages, out-signed)
 
 check-first-requires : tie.Need-check-first-requires
 check-first-requires c κs = search in-first
 
 returns-6 : tie.Need-returns-6
-returns-6 c = search out-first
+returns-6 c = search (stages, out-signed)
 
 pub check-open-spec : {M : Type 1} → statement M
 check-open-spec =

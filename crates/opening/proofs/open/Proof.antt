@@ -1,6 +1,7 @@
 use mathlib.Core.Path.{_∙_}
 use borrow.Author.Needs.{needs}
-use Rattle.opening.proofs.Ways.{refused, opens, opened}
+use Rattle.laws.proofs.Chain.{settled}
+use Rattle.opening.proofs.Ways.{refused, opened}
 use Rattle.opening.proofs.open.Statement.{statement}
 use Rattle.opening.proofs.open.Tie as tie
 
@@ -8,7 +9,7 @@ returns : tie.Need-returns
 returns c = c .refused .ensures ∙ search refused
 
 header-of-requires : tie.Need-header-of-requires
-header-of-requires c κs = search opens
+header-of-requires c κs = search settled
 
 returns-2 : tie.Need-returns-2
 returns-2 c = c .of .ensures ∙ search opened

@@ -1,21 +1,27 @@
-use Rattle.pcm.proofs.Ways.{no-channel, many-channels, other-depth, no-rate, spec-fine}
+use Rattle.format.specs.Encoding.{checkSpec}
+use Rattle.laws.proofs.Chain.{chain, flags}
 use Rattle.pcm.proofs.check_spec.Statement.{statement}
 use Rattle.pcm.proofs.check_spec.Tie as tie
 
 returns : tie.Need-returns
-returns c = search no-channel
+unfolding checkSpec
+returns c = search (chain, flags)
 
 returns-2 : tie.Need-returns-2
-returns-2 c = search many-channels
+unfolding checkSpec
+returns-2 c = search (chain, flags)
 
 returns-3 : tie.Need-returns-3
-returns-3 c = search other-depth
+unfolding checkSpec
+returns-3 c = search (chain, flags)
 
 returns-4 : tie.Need-returns-4
-returns-4 c = search no-rate
+unfolding checkSpec
+returns-4 c = search (chain, flags)
 
 returns-5 : tie.Need-returns-5
-returns-5 c = search spec-fine
+unfolding checkSpec
+returns-5 c = search (chain, flags)
 
 pub check-spec-spec : {M : Type 1} → statement M
 check-spec-spec =

@@ -1,17 +1,20 @@
-use mathlib.Core.Path.{_∙_}
 use borrow.Author.Needs.{needs}
-use Rattle.reader.proofs.Ways.{decode-refused, refused-keeps, decodes, decode-fields, decode-opens, decode-short, decode-reads, short-keeps, room-enough, puts-all}
+use Rattle.format.specs.Decoding.{checkRoom, decodeOf, decodeInto}
+use Rattle.laws.proofs.Chain.{ways}
+use Rattle.reader.proofs.Ways.{decode-fields, decode-opens, is-short, has-room, reads-all, room-for-all}
 use Rattle.reader.proofs.decode_lent.Statement.{statement}
 use Rattle.reader.proofs.decode_lent.Tie as tie
 
 returns : tie.Need-returns
-returns c = ((c .refused .ensures ∙ search decode-refused, search refused-keeps), search needs)
+unfolding decodeOf decodeInto
+returns c = ((search ways, search ways), search needs)
 
 read-fields-requires : tie.Need-read-fields-requires
 read-fields-requires c κs = search decode-fields
 
 returns-2 : tie.Need-returns-2
-returns-2 c = ((c .refused2 .ensures ∙ search decode-short, search short-keeps), search needs)
+unfolding decodeOf decodeInto checkRoom
+returns-2 c = ((search (ways, is-short), search (ways, is-short)), search needs)
 
 format-of-requires : tie.Need-format-of-requires
 format-of-requires c κs = (search decode-opens, search needs)
@@ -20,10 +23,11 @@ write-groups-requires : tie.Need-write-groups-requires
 write-groups-requires c κs =
     let left = c .before .before .before in
     let count = left .before .before in
-    (search decodes, search needs, search needs, room-enough _ _ _ _ _ (count .before .before .before .samples .ensures) (count .count .ensures) (left .if1 .left))
+    (search ways, search needs, search needs, room-for-all _ _ _ _ _ (count .before .before .before .samples .ensures) (count .count .ensures) (left .if1 .left))
 
 returns-3 : tie.Need-returns-3
-returns-3 c = ((c .of .ensures ∙ search decode-reads, search puts-all), search needs)
+unfolding decodeOf decodeInto checkRoom
+returns-3 c = ((search (ways, has-room, reads-all), search (ways, has-room)), search needs)
 
 pub decode-lent-spec : {M : Type 1} → statement M
 decode-lent-spec =

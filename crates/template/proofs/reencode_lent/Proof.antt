@@ -1,21 +1,24 @@
 -- `template::reencode_lent` meets its contract at each way out.
-use mathlib.Core.Path.{_∙_}
 use borrow.Author.Needs.{needs}
-use Rattle.template.proofs.Ways.{check-refused, check-keeps, check-fine, short-refused, short-keeps, writes, puts-file}
+use Rattle.format.specs.Reencoding.{checkReencodeInto, reencodeOf, reencodeInto}
+use Rattle.laws.proofs.Chain.{ways}
 use Rattle.template.proofs.reencode_lent.Statement.{statement}
 use Rattle.template.proofs.reencode_lent.Tie as tie
 
 returns : tie.Need-returns
-returns c = (c .refused .ensures ∙ search check-refused, search check-keeps)
+unfolding reencodeOf reencodeInto checkReencodeInto
+returns c = (search ways, search ways)
 
 returns-2 : tie.Need-returns-2
-returns-2 c = (c .refused2 .ensures ∙ search short-refused, search short-keeps)
+unfolding reencodeOf reencodeInto checkReencodeInto
+returns-2 c = (search ways, search ways)
 
 write-file-requires : tie.Need-write-file-requires
-write-file-requires c κs = (search check-fine, search needs)
+write-file-requires c κs = (search ways, search needs)
 
 returns-3 : tie.Need-returns-3
-returns-3 c = (c .of .ensures ∙ search writes, search puts-file)
+unfolding reencodeOf reencodeInto checkReencodeInto
+returns-3 c = (search ways, search ways)
 
 pub reencode-lent-spec : {M : Type 1} → statement M
 reencode-lent-spec =

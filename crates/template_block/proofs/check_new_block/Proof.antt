@@ -1,21 +1,27 @@
 -- `template_block::check_new_block` meets its contract: a law for each way out.
 use borrow.Author.Needs.{needs}
+use Rattle.format.specs.Reencoding.{checkNewBlock}
+use Rattle.laws.proofs.Chain.{chain, flags}
 use Rattle.block.proofs.Checking.{known-by}
-use Rattle.template_block.proofs.Blocks.{no-header, no-mark, no-bits, one-bit, other-flags, bits-beyond, no-values, fit-says, coding-known, known-1, known-32}
+use Rattle.template_block.proofs.Blocks.{other-flags, bits-beyond, no-values, fit-says, coding-known, known-1, known-32}
 use Rattle.template_block.proofs.check_new_block.Statement.{statement}
 use Rattle.template_block.proofs.check_new_block.Tie as tie
 
 returns : tie.Need-returns
-returns c = search (needs, no-header)
+unfolding checkNewBlock
+returns c = search chain
 
 returns-2 : tie.Need-returns-2
-returns-2 c = search (needs, no-mark)
+unfolding checkNewBlock
+returns-2 c = search (chain, flags)
 
 returns-3 : tie.Need-returns-3
-returns-3 c = search (needs, no-bits)
+unfolding checkNewBlock
+returns-3 c = search (chain, flags)
 
 returns-4 : tie.Need-returns-4
-returns-4 c = search (needs, one-bit)
+unfolding checkNewBlock
+returns-4 c = search (chain, flags)
 
 returns-5 : tie.Need-returns-5
 returns-5 c = search (needs, other-flags)

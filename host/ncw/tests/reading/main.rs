@@ -1,4 +1,4 @@
-//! The crate over the archive, held to document 01 and to the recorded answers of the Rust original.
+//! The crate over the archive, held to document 01.
 #[allow(dead_code)]
 #[path = "../../../recorded/blocks.rs"]
 mod blocks;
@@ -10,7 +10,6 @@ mod inputs;
 #[allow(dead_code)]
 #[path = "../../../definitions/random.rs"]
 mod random;
-mod recorded;
 mod refusals;
 mod room;
 

@@ -1,20 +1,23 @@
 use borrow.Author.Needs.{needs}
-use Rattle.opening.proofs.Ways.{opens, fields-there}
-use Rattle.reader.proofs.Ways.{check-refused, check-rest}
+use Rattle.format.specs.Decoding.{checkDecode}
+use Rattle.laws.proofs.Chain.{settled, stages}
+use Rattle.opening.proofs.Ways.{fields-there}
+use Rattle.reader.proofs.Ways.{check-rest}
 use Rattle.reader.proofs.checking.check_decode.Statement.{statement}
 use Rattle.reader.proofs.checking.check_decode.Tie as tie
 
 returns : tie.Need-returns
-returns c = search check-refused
+unfolding checkDecode
+returns c = search stages
 
 read-fields-requires : tie.Need-read-fields-requires
 read-fields-requires c κs = search fields-there
 
 format-of-requires : tie.Need-format-of-requires
-format-of-requires c κs = (search opens, search needs)
+format-of-requires c κs = (search settled, search needs)
 
 check-groups-requires : tie.Need-check-groups-requires
-check-groups-requires c κs = (search opens, search needs)
+check-groups-requires c κs = (search settled, search needs)
 
 returns-2 : tie.Need-returns-2
 returns-2 c = search check-rest

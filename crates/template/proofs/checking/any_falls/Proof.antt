@@ -4,7 +4,7 @@ use mathlib.Core.Path.{_≡_}
 use mathlib.Core.Bool.{false}
 use borrow.Author.Needs.{needs}
 use Rattle.format.specs.Lists.{anyBelow}
-use Rattle.header.proofs.Chain.{any-none}
+use Rattle.laws.proofs.Chain.{any-none}
 use Rattle.template.proofs.Stages.{falls, falls-here, falls-not-yet, falls-nowhere}
 use Rattle.template.proofs.checking.any_falls.Statement.{statement}
 use Rattle.template.proofs.checking.any_falls.Tie as tie

@@ -1,33 +1,38 @@
 -- `template::check_reencode` meets its contract: each stage refuses, or the next is asked.
 use borrow.Author.Needs.{needs}
+use Rattle.format.specs.Reencoding.{checkReencode}
+use Rattle.laws.proofs.Chain.{settled, stages}
 use Rattle.template.proofs.Groups.{some-channel}
-use Rattle.template.proofs.Stages.{spec-passed, samples-passed, template-passed, template-long, spec-refused, samples-refused, template-refused, groups-rest}
+use Rattle.template.proofs.Stages.{template-long, groups-rest}
 use Rattle.template.proofs.checking.check_reencode.Statement.{statement}
 use Rattle.template.proofs.checking.check_reencode.Tie as tie
 
 returns : tie.Need-returns
-returns c = search spec-refused
+unfolding checkReencode
+returns c = search stages
 
 check-samples-requires : tie.Need-check-samples-requires
-check-samples-requires c κs = search (some-channel, spec-passed)
+check-samples-requires c κs = search (some-channel, settled)
 
 returns-2 : tie.Need-returns-2
-returns-2 c = search samples-refused
+unfolding checkReencode
+returns-2 c = search stages
 
 check-template-requires : tie.Need-check-template-requires
-check-template-requires c κs = (search spec-passed, search samples-passed)
+check-template-requires c κs = (search settled, search settled)
 
 returns-3 : tie.Need-returns-3
-returns-3 c = search template-refused
+unfolding checkReencode
+returns-3 c = search stages
 
 read-fields-requires : tie.Need-read-fields-requires
 read-fields-requires c κs = search template-long
 
 check-groups-requires : tie.Need-check-groups-requires
-check-groups-requires c κs = (search spec-passed, search samples-passed, search template-passed, search needs)
+check-groups-requires c κs = (search settled, search settled, search settled, search needs)
 
 returns-4 : tie.Need-returns-4
-returns-4 c = search groups-rest
+returns-4 c = search (stages, groups-rest)
 
 pub check-reencode-spec : {M : Type 1} → statement M
 check-reencode-spec =

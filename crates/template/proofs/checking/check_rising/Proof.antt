@@ -1,7 +1,7 @@
 -- `template::check_rising` meets its contract.
 use borrow.Author.Needs.{needs}
 use Rattle.format.specs.Reencoding.{checkRising}
-use Rattle.header.proofs.Chain.{chain, flags}
+use Rattle.laws.proofs.Chain.{chain, flags}
 use Rattle.template.proofs.checking.check_rising.Statement.{statement}
 use Rattle.template.proofs.checking.check_rising.Tie as tie
 

@@ -1,6 +1,6 @@
 -- `template::check_same` meets its contract.
 use Rattle.format.specs.Reencoding.{checkSame}
-use Rattle.header.proofs.Chain.{chain}
+use Rattle.laws.proofs.Chain.{chain}
 use Rattle.template.proofs.checking.check_same.Statement.{statement}
 use Rattle.template.proofs.checking.check_same.Tie as tie
 

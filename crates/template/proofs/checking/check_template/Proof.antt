@@ -1,31 +1,35 @@
 -- `template::check_template` meets its contract: each way out answers as the checks in order.
 use borrow.Author.Needs.{needs}
+use Rattle.format.specs.Reencoding.{checkTemplate}
+use Rattle.laws.proofs.Chain.{chain, flags, stages}
 use Rattle.laws.proofs.SampleChecks.{frames-ok, count-ok}
 use Rattle.template.proofs.Groups.{some-channel}
-use Rattle.template.proofs.Stages.{template-short, template-unsigned, template-differs, template-beyond, template-rest, table-there}
+use Rattle.template.proofs.Stages.{template-signed, table-there}
 use Rattle.template.proofs.checking.check_template.Statement.{statement}
 use Rattle.template.proofs.checking.check_template.Tie as tie
 
 returns : tie.Need-returns
-returns c = search template-short
+unfolding checkTemplate
+returns c = search chain
 
 returns-2 : tie.Need-returns-2
-returns-2 c = search template-unsigned
+unfolding checkTemplate
+returns-2 c = search (chain, flags)
 
 frames-of-requires : tie.Need-frames-of-requires
 frames-of-requires c κs = (search some-channel, search frames-ok, search count-ok)
 
 returns-3 : tie.Need-returns-3
-returns-3 c = search template-differs
+returns-3 c = search (stages, template-signed)
 
 returns-4 : tie.Need-returns-4
-returns-4 c = search template-beyond
+returns-4 c = search (stages, template-signed)
 
 check-rising-requires : tie.Need-check-rising-requires
 check-rising-requires c κs = search table-there
 
 returns-5 : tie.Need-returns-5
-returns-5 c = search template-rest
+returns-5 c = search (stages, template-signed)
 
 pub check-template-spec : {M : Type 1} → statement M
 check-template-spec =

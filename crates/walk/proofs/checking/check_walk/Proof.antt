@@ -1,11 +1,14 @@
 use borrow.Author.Needs.{needs}
-use Rattle.opening.proofs.Ways.{opens, fields-there}
-use Rattle.walk.proofs.Ways.{walk-closed, walk-done, walk-depth, walk-rises, walk-within, walk-refused, walk-short, walk-fine}
+use Rattle.format.specs.Walking.{checkWalk}
+use Rattle.laws.proofs.Chain.{settled, stages}
+use Rattle.opening.proofs.Ways.{fields-there}
+use Rattle.walk.proofs.Ways.{walk-done, walk-depth, walk-rises, walk-within, walk-refused, walk-short, walk-fine}
 use Rattle.walk.proofs.checking.check_walk.Statement.{statement}
 use Rattle.walk.proofs.checking.check_walk.Tie as tie
 
 returns : tie.Need-returns
-returns c = search walk-closed
+unfolding checkWalk
+returns c = search stages
 
 read-fields-requires : tie.Need-read-fields-requires
 read-fields-requires c κs = search fields-there
@@ -14,13 +17,13 @@ returns-2 : tie.Need-returns-2
 returns-2 c = search walk-done
 
 format-of-requires : tie.Need-format-of-requires
-format-of-requires c κs = (search opens, search needs)
+format-of-requires c κs = (search settled, search needs)
 
 offset-of-requires : tie.Need-offset-of-requires
-offset-of-requires c κs = (search opens, search needs, search needs)
+offset-of-requires c κs = (search settled, search needs, search needs)
 
 offset-of-requires-2 : tie.Need-offset-of-requires-2
-offset-of-requires-2 c κs = (search opens, search needs, search needs)
+offset-of-requires-2 c κs = (search settled, search needs, search needs)
 
 sub-check-group : tie.Need-sub-check-group
 sub-check-group c = search walk-rises

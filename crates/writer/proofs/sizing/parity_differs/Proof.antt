@@ -4,7 +4,7 @@ use mathlib.Core.Bool.{false}
 use borrow.Author.Needs.{needs}
 use Rattle.format.specs.Lists.{anyBelow}
 use Rattle.lent.specs.Lent.{lentOf}
-use Rattle.header.proofs.Chain.{any-none}
+use Rattle.laws.proofs.Chain.{any-none}
 use Rattle.writer.proofs.Groups.{differs, frames-some, frames-inside, differs-here, differs-not-yet, differs-nowhere}
 use Rattle.writer.proofs.sizing.parity_differs.Statement.{statement}
 use Rattle.writer.proofs.sizing.parity_differs.Tie as tie

@@ -1,0 +1,152 @@
+// Opening, decoding and a step of a walk, each asked of the proved entry and, where it has one, of the host boundary: whether all answer as recorded.
+use format::Answer;
+use format::Frames;
+use format::Header;
+use format::Outcome;
+use format::SampleFormat;
+use lent::Container;
+use recorded::Recorded;
+use recorded::Said;
+use recorded::Verdict;
+use recorded::fill;
+use recorded::is_recorded;
+use recorded::judged;
+use recorded::of_answer;
+use recorded::of_result;
+use recorded::read_recorded;
+use recorded::spoil;
+
+// What was recorded of a file that opens.
+struct Opened {
+    channels: u16,
+    depth: u16,
+    rate: u32,
+    frames: u32,
+    table: u32,
+    start: u32,
+    size: u32,
+    groups: u32,
+    format: u32,
+}
+
+fn read_opened(list: i32) -> Opened {
+    Opened {
+        channels: recorded::read_u16(list),
+        depth: recorded::read_u16(list),
+        rate: recorded::read_u32(list),
+        frames: recorded::read_u32(list),
+        table: recorded::read_u32(list),
+        start: recorded::read_u32(list),
+        size: recorded::read_u32(list),
+        groups: recorded::read_u32(list),
+        format: recorded::read_u8(list),
+    }
+}
+
+fn number_of(format: SampleFormat) -> u32 {
+    match format {
+        SampleFormat::Pcm => 0,
+        SampleFormat::Float => 1,
+    }
+}
+
+fn is_header(h: Header, want: Opened) -> bool {
+    let depth = h.depth;
+    let format = h.format;
+    let mut same = h.channels == want.channels;
+    same = same & (depth.bits() == want.depth);
+    same = same & (h.rate == want.rate);
+    same = same & (h.frames.0 == want.frames);
+    same = same & (h.table == want.table);
+    same = same & (h.start == want.start);
+    same = same & (h.size == want.size);
+    same = same & (h.groups == want.groups);
+    same & (number_of(format) == want.format)
+}
+
+fn is_opened(answer: Answer, want: Opened) -> bool {
+    let outcome = answer.outcome;
+    if let Outcome::Opened(h) = outcome {
+        is_header(h, want)
+    } else {
+        false
+    }
+}
+
+// What decoding would write: 4 bytes for each sample.
+fn is_length(result: u64, want: Opened) -> bool {
+    let samples = Frames(want.frames).samples(want.channels);
+    if result % 4 != 0 {
+        return false;
+    }
+    result / 4 == samples.0
+}
+
+fn is_refused(said: u32, result: u64, number: u32) -> bool {
+    if said != number {
+        return false;
+    }
+    result == 0x8000_0000_0000_0000 + number as u64
+}
+
+pub fn open(list: i32, file: &[u8]) -> Verdict {
+    let answer = opening::open(file);
+    let result = ncw::ncw_open(file);
+    let number = recorded::read_u8(list);
+    let mut is_same = is_refused(of_answer(answer).number, result, number);
+    if number == 0 {
+        let want = read_opened(list);
+        is_same = is_opened(answer, want) & is_length(result, want);
+    }
+    Verdict {
+        is_same,
+        number,
+        length: 0,
+    }
+}
+
+fn decode_words(file: &[u8], room: &mut [i32]) -> Said {
+    of_answer(reader::decode_samples(file, room))
+}
+
+fn decode_by_entry(file: &[u8], spoiled: usize, room: &mut [i32], want: Recorded) -> bool {
+    fill(Container::Words, room, &mut []);
+    let said = decode_words(file, room);
+    spoil(Container::Words, room, &mut [], spoiled);
+    is_recorded(said, want, Container::Words, room, &[])
+}
+
+fn decode_bytes(file: &[u8], room: &mut [u8], bits: u16) -> Said {
+    of_result(ncw::ncw_decode(file, room), bits)
+}
+
+fn decode_by_host(file: &[u8], spoiled: usize, room: &mut [u8], want: Recorded) -> bool {
+    fill(Container::Bytes, &mut [], room);
+    let said = decode_bytes(file, room, want.bits);
+    spoil(Container::Bytes, &mut [], room, spoiled);
+    is_recorded(said, want, Container::Bytes, &[], room)
+}
+
+pub fn decode(
+    list: i32,
+    file: &[u8],
+    spoiled: usize,
+    words: &mut [i32],
+    bytes: &mut [u8],
+) -> Verdict {
+    let want = read_recorded(list, true);
+    let by_entry = decode_by_entry(file, spoiled, words, want);
+    let by_host = decode_by_host(file, spoiled, bytes, want);
+    judged(by_entry & by_host, want)
+}
+
+// The walk stands at a group, and after the step where the list says.
+pub fn step(list: i32, file: &[u8], group: u32, spoiled: usize, room: &mut [i32]) -> Verdict {
+    let want = read_recorded(list, true);
+    let next = recorded::read_u32(list);
+    fill(Container::Words, room, &mut []);
+    let step = walk::step_at(file, group, room);
+    spoil(Container::Words, room, &mut [], spoiled);
+    let is_same = is_recorded(of_answer(step.answer), want, Container::Words, room, &[]);
+    judged(is_same & (step.next == next), want)
+}

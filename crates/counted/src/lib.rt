@@ -1,0 +1,112 @@
+// How often each question was answered by each number; then how many were as recorded and how many were not, and how many were false on purpose and found.
+use recorded::Verdict;
+use report::print;
+use report::print_number;
+use std::num::wrapping_add_u64;
+
+const AS_RECORDED: usize = 1280;
+
+const OTHERS: usize = 1281;
+
+const FALSE: usize = 1282;
+
+const FOUND: usize = 1283;
+
+fn count(counts: &mut [u64], at: usize) {
+    if at < counts.len() {
+        counts[at] = wrapping_add_u64(counts[at], 1);
+    }
+}
+
+fn count_of(counts: &[u64], at: usize) -> u64 {
+    if at < counts.len() { counts[at] } else { 0 }
+}
+
+// The place of an answer: 256 numbers for each question.
+fn place_of(kind: u32, number: u32) -> usize {
+    (kind % 16 * 256 + number % 256) as usize
+}
+
+fn count_other(counts: &mut [u64], item: u64) {
+    print(b"item ");
+    print_number(item);
+    print(b": not as recorded\n");
+    count(counts, OTHERS);
+}
+
+fn tally_false(counts: &mut [u64], item: u64, is_same: bool) {
+    count(counts, FALSE);
+    if is_same {
+        count_other(counts, item);
+    } else {
+        count(counts, FOUND);
+    }
+}
+
+// The answer to the item of that number and kind, which may be false on purpose.
+pub fn tally(counts: &mut [u64], item: u64, kind: u32, is_false: bool, verdict: Verdict) {
+    if is_false {
+        tally_false(counts, item, verdict.is_same);
+        return;
+    }
+    if verdict.is_same {
+        count(counts, AS_RECORDED);
+        count(counts, place_of(kind, verdict.number));
+    } else {
+        count_other(counts, item);
+    }
+}
+
+fn print_refusal(is_first: bool, number: u32, times: u64) {
+    if is_first {
+        print(b", refused ");
+    } else {
+        print(b", ");
+    }
+    print_number(number as u64);
+    print(b": ");
+    print_number(times);
+}
+
+// The refusals of a question, by number.
+fn print_refusals(counts: &[u64], kind: u32) {
+    let mut is_first = true;
+    let mut number: u32 = 1;
+    while number < 255 {
+        let times = count_of(counts, place_of(kind, number));
+        if 0 < times {
+            print_refusal(is_first, number, times);
+            is_first = false;
+        }
+        number += 1;
+    }
+}
+
+fn print_question(counts: &[u64], kind: u32, name: &[u8]) {
+    print(name);
+    print(b": accepted ");
+    print_number(count_of(counts, place_of(kind, 0)));
+    let done = count_of(counts, place_of(kind, 255));
+    if 0 < done {
+        print(b", done ");
+        print_number(done);
+    }
+    print_refusals(counts, kind);
+    print(b"\n");
+}
+
+pub fn print_counts(counts: &[u64; 1536]) {
+    print_question(counts, 16, b"opening");
+    print_question(counts, 17, b"decoding");
+    print_question(counts, 18, b"stepping");
+    print_question(counts, 19, b"encoding");
+    print_question(counts, 20, b"re-encoding");
+    print_number(count_of(counts, AS_RECORDED));
+    print(b" answers as recorded, ");
+    print_number(count_of(counts, OTHERS));
+    print(b" others\n");
+    print_number(count_of(counts, FALSE));
+    print(b" false ones on purpose, ");
+    print_number(count_of(counts, FOUND));
+    print(b" found\n");
+}

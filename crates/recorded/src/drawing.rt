@@ -1,0 +1,79 @@
+// Drawn numbers: x becomes 48271 x modulo 2147483647, and the value is `low` plus x modulo `range`, or plus twice that.
+use std::num::wrapping_add_u32;
+use write_bytes::put_u32_le;
+ghost use Prim.Native.Nat.{_<_};
+
+pub struct Drawn {
+    pub seed: u32,
+    pub low: u32,
+    pub range: u32,
+    pub is_doubled: bool,
+    pub in_steps: bool,
+}
+
+pub fn read_drawn(list: i32) -> Drawn {
+    let seed = crate::read_u32(list);
+    let low = crate::read_u32(list);
+    let range = crate::read_u32(list);
+    let style = crate::read_u8(list);
+    Drawn {
+        seed,
+        low,
+        range,
+        is_doubled: style / 2 % 2 == 1,
+        in_steps: style % 2 == 1,
+    }
+}
+
+fn next(x: u64) -> u64
+    ensures { λ r. ⌜ r < 2147483647 ⌝ }
+{
+    x % 4294967296 * 48271 % 2147483647
+}
+
+fn value(x: u64, d: Drawn) -> u32 {
+    let range = d.range as u64;
+    if range == 0 {
+        return d.low;
+    }
+    let rest = (x % range % 0x1_0000_0000) as u32;
+    let value = wrapping_add_u32(d.low, rest);
+    if d.is_doubled {
+        wrapping_add_u32(value, rest)
+    } else {
+        value
+    }
+}
+
+// In steps each number is the one before plus its value.
+fn number_after(before: u32, x: u64, d: Drawn) -> u32 {
+    if d.in_steps {
+        wrapping_add_u32(before, value(x, d))
+    } else {
+        value(x, d)
+    }
+}
+
+fn fill(part: &mut [u8], d: Drawn) {
+    let n = part.len() / 4;
+    let mut x = d.seed as u64;
+    let mut number: u32 = 0;
+    let mut i: usize = 0;
+    while i < n {
+        x = next(x);
+        number = number_after(number, x, d);
+        put_u32_le(part, 4 * i, number);
+        i += 1;
+    }
+}
+
+// n drawn numbers, 4 bytes each, from `at` on in the space that is lent, where they lie within it.
+pub fn draw(space: &mut [u8], at: usize, n: usize, d: Drawn) {
+    if space.len() < at {
+        return;
+    }
+    if (space.len() - at) / 4 < n {
+        return;
+    }
+    fill(&mut space[at..at + 4 * n], d);
+}

@@ -1,0 +1,28 @@
+-- The part is within its room: the test says so.
+use native.Mathlib.Omega.{arith}
+use lib.ListN.{length-take}
+use borrow.Author.Needs.{needs}
+use Rattle.remaster.proofs.job.run.Statement.{statement}
+use Rattle.remaster.proofs.job.run.Tie as tie
+
+slice-aggregate-make-room : tie.Need-slice-aggregate-make-room
+slice-aggregate-make-room c = simp length-take (omega arith)
+
+pub run-spec : {M : Type 1} → statement M
+run-spec =
+    tie.close
+    (tie.spec
+    (λ c κs. search needs)
+    (λ c. search needs)
+    (λ c κs. search needs)
+    (λ c. search needs)
+    (λ c. search needs)
+    (λ c κs. search needs)
+    (λ c κs. search needs)
+    (λ c κs. search needs)
+    (λ c. search needs)
+    (λ c. search needs)
+    slice-aggregate-make-room
+    (λ c κs. search needs)
+    (λ c. search needs)
+    (λ c. search needs))

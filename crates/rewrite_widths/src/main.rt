@@ -1,5 +1,0 @@
-use recorded::List;
-
-fn main() {
-    recorded::run(List::Templates);
-}

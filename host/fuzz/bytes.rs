@@ -1,0 +1,98 @@
+//! Inputs as libFuzzer's bytes, and back. Numbers have their lowest byte first.
+use super::edge::Edge;
+use crate::boundary;
+use crate::input::Input;
+use crate::lent::REFUSED;
+use crate::{encoding, reencoding};
+
+pub trait Fuzzed: Input {
+    /// None where there are too few bytes.
+    fn from_bytes(bytes: &[u8]) -> Option<Self>;
+
+    /// None where there is no place for a length.
+    fn to_bytes(&self) -> Option<Vec<u8>>;
+
+    /// The boundary's calls with lent memory that ends at an edge: a step over it is a crash.
+    fn ask_at(&self, edges: &mut [Edge; 3]);
+}
+
+/// The file itself.
+impl Fuzzed for Vec<u8> {
+    fn from_bytes(bytes: &[u8]) -> Option<Self> {
+        Some(bytes.to_vec())
+    }
+
+    fn to_bytes(&self) -> Option<Vec<u8>> {
+        Some(self.clone())
+    }
+
+    fn ask_at(&self, [file, samples, _]: &mut [Edge; 3]) {
+        let file = file.of(self);
+        let answer = boundary::open(file);
+        boundary::decode(file, samples.room(if answer < REFUSED { answer as usize } else { 0 }));
+    }
+}
+
+/// Channels and depth in 2 bytes each, rate and mode in 4, the bytes of the samples.
+impl Fuzzed for encoding::Call {
+    fn from_bytes(bytes: &[u8]) -> Option<Self> {
+        let (head, samples) = bytes.split_first_chunk::<12>()?;
+        Some(encoding::Call {
+            samples: samples.to_vec(),
+            channels: two(head, 0),
+            depth: two(head, 2),
+            rate: four(head, 4),
+            mode: four(head, 8),
+        })
+    }
+
+    fn to_bytes(&self) -> Option<Vec<u8>> {
+        let (channels, depth) = (self.channels.to_le_bytes(), self.depth.to_le_bytes());
+        Some([&channels, &depth, &self.rate.to_le_bytes()[..], &self.mode.to_le_bytes(), &self.samples].concat())
+    }
+
+    fn ask_at(&self, [samples, file, _]: &mut [Edge; 3]) {
+        let samples = samples.of(&self.samples);
+        let mut ask =
+            |room| boundary::encode(samples, self.channels, self.depth, self.rate, self.mode, file.room(room));
+        let answer = ask(self.longest());
+        if answer < REFUSED {
+            ask(answer as usize);
+        }
+    }
+}
+
+/// Channels and depth in 2 bytes each, rate in 4, in 2 how many bytes of samples follow; after them the template.
+impl Fuzzed for reencoding::Call {
+    fn from_bytes(bytes: &[u8]) -> Option<Self> {
+        let (head, rest) = bytes.split_first_chunk::<10>()?;
+        let (samples, template) = rest.split_at(rest.len().min(two(head, 8).into()));
+        Some(reencoding::Call {
+            samples: samples.to_vec(),
+            channels: two(head, 0),
+            depth: two(head, 2),
+            rate: four(head, 4),
+            template: template.to_vec(),
+        })
+    }
+
+    fn to_bytes(&self) -> Option<Vec<u8>> {
+        let (channels, depth) = (self.channels.to_le_bytes(), self.depth.to_le_bytes());
+        let length = u16::try_from(self.samples.len()).ok()?.to_le_bytes();
+        Some([&channels, &depth, &self.rate.to_le_bytes()[..], &length, &self.samples, &self.template].concat())
+    }
+
+    fn ask_at(&self, [samples, template, file]: &mut [Edge; 3]) {
+        let (samples, template) = (samples.of(&self.samples), template.of(&self.template));
+        let file = file.room(self.template.len());
+        boundary::reencode(samples, self.channels, self.depth, self.rate, template, file);
+    }
+}
+
+fn two(head: &[u8], at: usize) -> u16 {
+    u16::from_le_bytes([head[at], head[at + 1]])
+}
+
+fn four(head: &[u8], at: usize) -> u32 {
+    u32::from(two(head, at)) | u32::from(two(head, at + 2)) << 16
+}

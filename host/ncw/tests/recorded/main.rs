@@ -1,0 +1,105 @@
+//! The crate over the archive, held to the list of recorded answers (`host/recorded`): all but the steps of walks, which it has no call for.
+#[allow(dead_code)]
+#[path = "../../../recorded/draw.rs"]
+mod draw;
+#[allow(dead_code)]
+#[path = "../../../definitions/random.rs"]
+mod random;
+#[path = "../../../recorded/reread.rs"]
+mod reread;
+
+use ncw::{boundary, NcwError, NcwReader, SampleFormat};
+use reread::{reread, Given, Question};
+use std::fs;
+use std::io::Cursor;
+use std::path::Path;
+
+const FILLER: u8 = 0x5A;
+
+fn ask(question: &Question) -> Option<Given> {
+    let Question { file, samples, spec, first, .. } = question;
+    let (channels, depth, rate) = (spec.channels, spec.bits_per_sample, spec.sample_rate);
+    match question.kind {
+        16 => Some((opened(file).unwrap_or_else(|error| refused(&error)), Vec::new())),
+        17 => Some(in_room(4 * question.room, 4, |room| boundary::decode(file, room), || bits_of_decoding(file))),
+        19 => {
+            Some(in_room(question.room, 1, |room| boundary::encode(samples, channels, depth, rate, *first, room), || 0))
+        }
+        20 => {
+            let call = |room: &mut [u8]| boundary::reencode(samples, channels, depth, rate, file, room);
+            Some(in_room(question.room, 1, call, || bits_of_reencoding(question)))
+        }
+        _ => None,
+    }
+}
+
+/// The nine numbers of a file that opens.
+fn opened(file: &[u8]) -> Result<Vec<u8>, NcwError> {
+    let length = ncw::open(file)?;
+    let reader = NcwReader::read(Cursor::new(file))?;
+    let h = &reader.header;
+    assert_eq!(length as u64, 4 * u64::from(h.channels) * u64::from(h.num_samples));
+    let groups = reader.block_offsets.len() as u32;
+    let first = [h.channels, h.bits_per_sample].map(u16::to_le_bytes).concat();
+    let numbers = [h.sample_rate, h.num_samples, h.blocks_offset, h.data_offset, h.data_size, groups];
+    let float = u8::from(reader.sample_format == SampleFormat::Float);
+    Ok([&[0], &first[..], &numbers.map(u32::to_le_bytes).concat(), &[float]].concat())
+}
+
+fn refused(error: &NcwError) -> Vec<u8> {
+    vec![error.number().expect("a number") as u8]
+}
+
+/// The call with room for so many bytes; all but what it wrote has to be as it was. A count is of `size` bytes each.
+fn in_room(room: usize, size: usize, call: impl FnOnce(&mut [u8]) -> u64, bits: impl FnOnce() -> i16) -> Given {
+    let mut lent = vec![FILLER; room];
+    let answer = call(&mut lent);
+    let refused = answer.checked_sub(boundary::REFUSED);
+    let written = if refused.is_some() { 0 } else { answer as usize };
+    assert!(lent[written..].iter().all(|byte| *byte == FILLER), "bytes that had to stay");
+    lent.truncate(written);
+    let told = match refused {
+        Some(4) => [&[4][..], &bits().to_le_bytes()].concat(),
+        Some(number) => vec![number as u8],
+        None => [&[0][..], &((written / size) as u32).to_le_bytes(), &sum(&lent).to_le_bytes()].concat(),
+    };
+    (told, lent)
+}
+
+fn bits_of_decoding(file: &[u8]) -> i16 {
+    bits(ncw::decode_bytes(file, &mut []).map(drop))
+}
+
+fn bits_of_reencoding(question: &Question) -> i16 {
+    bits(ncw::encode_pcm_with_template(&words(question.samples), question.spec, question.file).map(drop))
+}
+
+fn bits(answer: Result<(), NcwError>) -> i16 {
+    match answer {
+        Err(NcwError::UnsupportedBitDepth(bits)) => bits,
+        _ => panic!("no refusal by 4"),
+    }
+}
+
+fn words(bytes: &[u8]) -> Vec<i32> {
+    bytes.chunks_exact(4).map(|four| i32::from_le_bytes([four[0], four[1], four[2], four[3]])).collect()
+}
+
+/// 32-bit numbers as digits to the base 1,000,003, modulo a prime.
+fn sum(bytes: &[u8]) -> u32 {
+    let digit = |sum: u64, number: &i32| (sum * 1_000_003 + u64::from(*number as u32)) % 4_294_967_291;
+    words(bytes).iter().fold(0, digit) as u32
+}
+
+/// As many are accepted as `replay` must print.
+#[test]
+fn the_recorded_answers() {
+    let replay = Path::new(env!("CARGO_MANIFEST_DIR")).join("../../crates/replay");
+    let answers = reread(&fs::read(replay.join("data/answers")).unwrap(), ask);
+    let text = fs::read_to_string(replay.join("stdout")).unwrap();
+    for (kind, name) in [(16, "opening"), (17, "decoding"), (19, "encoding"), (20, "re-encoding")] {
+        let accepted = answers.iter().filter(|answer| **answer == (kind, 0, false)).count();
+        let begins = format!("{name}: accepted {accepted},");
+        assert!(text.lines().any(|line| line.starts_with(&begins)), "{begins}");
+    }
+}

@@ -1,0 +1,177 @@
+//! What the list says of a question: the original's answer, with what document 01 adds (38, 39, 50, done).
+use crate::asking::{ask, Answer, Question as Asking};
+use crate::faults::put;
+use crate::reread::{Given, Question};
+use ncw::{PcmSpec, StereoMode};
+
+#[derive(Clone, PartialEq)]
+pub enum Told {
+    /// The number, and the bits word where that is 4.
+    Refused(u8, i16),
+    Done,
+    /// The seven header numbers, the group count, and 1 for float or 0.
+    Opened([u64; 9]),
+    /// How many samples or bytes, and their sum.
+    Counted(u32, u32),
+}
+
+impl Told {
+    pub fn accepted(&self) -> bool {
+        matches!(self, Told::Opened(_) | Told::Counted(..))
+    }
+
+    /// 0 accepted, 255 done, otherwise the number of the refusal.
+    pub fn number(&self) -> u8 {
+        match self {
+            Told::Refused(number, _) => *number,
+            Told::Done => 255,
+            _ => 0,
+        }
+    }
+
+    pub fn bytes(&self) -> Vec<u8> {
+        let mut out = vec![self.number()];
+        match self {
+            Told::Refused(4, bits) => out.extend(bits.to_le_bytes()),
+            Told::Refused(..) | Told::Done => {}
+            Told::Opened(numbers) => {
+                numbers[..2].iter().for_each(|number| out.extend((*number as u16).to_le_bytes()));
+                numbers[2..8].iter().for_each(|number| out.extend((*number as u32).to_le_bytes()));
+                out.push(numbers[8] as u8);
+            }
+            Told::Counted(count, sum) => out.extend([count.to_le_bytes(), sum.to_le_bytes()].concat()),
+        }
+        out
+    }
+
+    pub fn short(&self) -> String {
+        match self {
+            Told::Refused(4, bits) => format!("4 ({bits})"),
+            Told::Refused(number, _) => number.to_string(),
+            Told::Done => "done".to_string(),
+            Told::Opened(numbers) => numbers.map(|number| number.to_string()).join(" "),
+            Told::Counted(count, sum) => format!("{count} sum {sum}"),
+        }
+    }
+}
+
+pub fn words(bytes: &[u8]) -> Vec<i32> {
+    bytes.chunks_exact(4).map(|four| i32::from_le_bytes([four[0], four[1], four[2], four[3]])).collect()
+}
+
+/// 32-bit numbers as digits to the base 1,000,003, modulo a prime, the first the highest.
+fn sum(numbers: &[i32]) -> u32 {
+    let digit = |sum: u64, number: &i32| (sum * 1_000_003 + u64::from(*number as u32)) % 4_294_967_291;
+    numbers.iter().fold(0, digit) as u32
+}
+
+fn refused(answer: &Answer) -> Told {
+    match answer {
+        Answer::Refused(number, bits) => Told::Refused(*number as u8, *bits),
+        _ => panic!("an answer to another question"),
+    }
+}
+
+pub fn opening(file: &[u8]) -> Told {
+    match ask(&Asking::Open(file.to_vec())) {
+        Answer::Opened(numbers) => Told::Opened(numbers),
+        answer => refused(&answer),
+    }
+}
+
+/// What is told, and the samples' bytes.
+pub fn reading(file: &[u8], room: usize) -> (Told, Vec<u8>) {
+    match ask(&Asking::Decode(file.to_vec())) {
+        Answer::Samples(samples) => {
+            (in_room(&samples, room), samples.iter().flat_map(|sample| sample.to_le_bytes()).collect())
+        }
+        answer => (refused(&answer), Vec::new()),
+    }
+}
+
+fn in_room(samples: &[i32], room: usize) -> Told {
+    match room < samples.len() {
+        true => Told::Refused(50, 0),
+        false => Told::Counted(samples.len() as u32, sum(samples)),
+    }
+}
+
+/// The original has no steps: it is asked to decode a file whose first group is good and of the same format, and whose second is the group asked for.
+pub fn stepping(file: &[u8], group: u32, room: usize) -> Told {
+    let numbers = match opening(file) {
+        Told::Opened(numbers) => numbers,
+        told => return told,
+    };
+    if numbers[7] <= group.into() {
+        return Told::Done;
+    }
+    let before = 512 * numbers[0] as usize;
+    let answer = ask(&Asking::Decode(behind_a_good_one(file, numbers, group as usize)));
+    let step = match &answer {
+        Answer::Samples(samples) => Some(&samples[before..]),
+        _ => None,
+    };
+    if let Answer::Samples(whole) = ask(&Asking::Decode(file.to_vec())) {
+        assert!(step == whole.chunks(before).nth(group as usize), "a step that is no part of the whole decode");
+    }
+    step.map_or_else(|| refused(&answer), |samples| in_room(samples, room))
+}
+
+fn behind_a_good_one(file: &[u8], numbers: [u64; 9], group: usize) -> Vec<u8> {
+    let [channels, _, _, frames, table, data, _, _, float] = numbers.map(|number| number as usize);
+    let entry = |k: usize| data + words(&file[table + 4 * k..][..4])[0] as usize;
+    let mut block = vec![0; 80];
+    block[..4].copy_from_slice(&[0x16, 0x0C, 0x9A, 0x3E]);
+    put(&mut block, 8, 2, 1);
+    put(&mut block, 10, 2, 2 * float as u64);
+    let first = block.repeat(channels);
+    let second = &file[entry(group)..entry(group + 1)];
+    let size = first.len() + second.len();
+    let mut out = [&file[..120], &[0; 12], &first, second].concat();
+    let header = [(16, 512 + (frames - 512 * group).min(512)), (20, 120), (24, 132), (28, size)];
+    let entries = [(124, first.len()), (128, size)];
+    header.iter().chain(&entries).for_each(|(at, number)| put(&mut out, *at, 4, *number as u64));
+    out
+}
+
+const MODES: [StereoMode; 3] = [StereoMode::Auto, StereoMode::Direct, StereoMode::MidSide];
+
+/// What is told, and the file.
+pub fn writing(spec: PcmSpec, mode: u32, samples: &[u8], room: usize) -> (Told, Vec<u8>) {
+    match MODES.get(mode as usize) {
+        None => (Told::Refused(38, 0), Vec::new()),
+        Some(mode) => written(samples, room, |samples| Asking::Encode(spec, *mode, samples)),
+    }
+}
+
+pub fn rewriting(spec: PcmSpec, samples: &[u8], template: &[u8], room: usize) -> (Told, Vec<u8>) {
+    written(samples, room, |samples| Asking::Reencode(spec, samples, template.to_vec()))
+}
+
+fn written(samples: &[u8], room: usize, question: impl FnOnce(Vec<i32>) -> Asking) -> (Told, Vec<u8>) {
+    if samples.len() % 4 != 0 {
+        return (Told::Refused(39, 0), Vec::new());
+    }
+    match ask(&question(words(samples))) {
+        Answer::Bytes(file) if room < file.len() => (Told::Refused(50, 0), file),
+        Answer::Bytes(file) => (Told::Counted(file.len() as u32, sum(&words(&file))), file),
+        answer => (refused(&answer), Vec::new()),
+    }
+}
+
+/// A question of the list asked again.
+pub fn to(question: &Question) -> Given {
+    let Question { kind, file, samples, spec, first, room } = question;
+    let ((told, bytes), next) = match kind {
+        16 => ((opening(file), Vec::new()), Vec::new()),
+        17 => (reading(file, *room), Vec::new()),
+        18 => {
+            let told = stepping(file, *first, *room);
+            let next = *first + u32::from(told.accepted());
+            ((told, Vec::new()), next.to_le_bytes().to_vec())
+        }
+        19 => (writing(*spec, *first, samples, *room), Vec::new()),
+        _ => (rewriting(*spec, samples, file, *room), Vec::new()),
+    };
+    ([told.bytes(), next].concat(), bytes)
+}

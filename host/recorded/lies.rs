@@ -1,0 +1,143 @@
+//! Answers that are false on purpose, and rooms that are changed on purpose: a program that finds none of them finds nothing.
+use crate::answers::Told;
+use crate::blocks::filled;
+use crate::encodings::spec;
+use crate::noisy::noisy;
+use crate::random::Random;
+use crate::tape::Tape;
+
+const REFUSED: Told = Told::Refused(1, 0);
+const ACCEPTED: Told = Told::Counted(4, 7);
+
+pub fn all(tape: &mut Tape) {
+    let mut good = filled(2, 513, || noisy(3, &mut Random::new(5)));
+    let file = good.bytes();
+    good.groups[1][1].bits = -33;
+    let damaged = good.bytes();
+    tape.case("false on purpose: opening");
+    of_opening(tape, &file);
+    tape.case("false on purpose: decoding");
+    of_decoding(tape, &file, &damaged);
+    tape.case("false on purpose: stepping");
+    of_stepping(tape, &file, &damaged);
+    tape.case("false on purpose: encoding");
+    of_encoding(tape);
+    tape.case("false on purpose: re-encoding");
+    of_reencoding(tape);
+}
+
+/// Each of the nine fields, and the number.
+fn of_opening(tape: &mut Tape, file: &[u8]) {
+    tape.file(file);
+    for field in 0..9 {
+        tape.lie(move |told, _| wrong_field(told, field));
+        tape.open();
+    }
+    tape.lie(|told, _| *told = REFUSED);
+    tape.open();
+    tape.file(&file[..119]);
+    tape.lie(|told, _| *told = Told::Refused(2, 0));
+    tape.open();
+    tape.lie(|told, _| *told = Told::Opened([1, 16, 44_100, 0, 120, 124, 0, 0, 0]));
+    tape.open();
+}
+
+fn wrong_field(told: &mut Told, field: usize) {
+    if let Told::Opened(numbers) = told {
+        numbers[field] ^= 1;
+    }
+}
+
+fn wrong_count(told: &mut Told, _: &mut u32) {
+    if let Told::Counted(count, _) = told {
+        *count = count.saturating_sub(4);
+    }
+}
+
+fn wrong_sum(told: &mut Told, _: &mut u32) {
+    if let Told::Counted(_, sum) = told {
+        *sum ^= 1;
+    }
+}
+
+fn wrong_bits(told: &mut Told, _: &mut u32) {
+    *told = Told::Refused(4, 33);
+}
+
+fn another_number(told: &mut Told, _: &mut u32) {
+    *told = Told::Refused(22, 0);
+}
+
+fn refused(told: &mut Told, _: &mut u32) {
+    *told = REFUSED;
+}
+
+fn accepted(told: &mut Told, _: &mut u32) {
+    *told = ACCEPTED;
+}
+
+/// A question with each of these answers.
+fn lies(tape: &mut Tape, lies: &[fn(&mut Told, &mut u32)], question: fn(&mut Tape) -> u32) {
+    for lie in lies {
+        tape.lie(*lie);
+        question(tape);
+    }
+}
+
+/// A question after which each of these words is changed.
+fn spoils(tape: &mut Tape, words: &[usize], question: fn(&mut Tape) -> u32) {
+    for word in words {
+        tape.spoil(*word);
+        question(tape);
+    }
+}
+
+fn of_decoding(tape: &mut Tape, file: &[u8], damaged: &[u8]) {
+    let question = |tape: &mut Tape| tape.decode(1028) as u32;
+    tape.file(file);
+    lies(tape, &[wrong_count, wrong_sum, refused], question);
+    spoils(tape, &[0, 1025, 1026, 1027], question);
+    tape.file(damaged);
+    lies(tape, &[wrong_bits, another_number, accepted], question);
+    spoils(tape, &[0, 1027], question);
+}
+
+fn of_stepping(tape: &mut Tape, file: &[u8], damaged: &[u8]) {
+    let question = |tape: &mut Tape| tape.step(1, 4);
+    let past = |tape: &mut Tape| tape.step(2, 4);
+    tape.file(file);
+    lies(tape, &[wrong_count, wrong_sum, refused, |told, _| *told = Told::Done, |_, next| *next = 1], question);
+    spoils(tape, &[1, 2, 3], question);
+    lies(tape, &[accepted, refused, |_, next| *next = 3], past);
+    spoils(tape, &[0, 3], past);
+    tape.file(damaged);
+    lies(tape, &[wrong_bits, another_number, accepted, |_, next| *next = 2], question);
+    spoils(tape, &[0, 3], question);
+}
+
+/// One sample gives 272 bytes.
+fn of_encoding(tape: &mut Tape) {
+    let question = |tape: &mut Tape| tape.encode(0, 280) as u32;
+    tape.settings(spec(1, 16));
+    tape.samples([5]);
+    lies(tape, &[wrong_count, wrong_sum, refused], question);
+    spoils(tape, &[67, 68, 69], question);
+    tape.samples([40_000]);
+    lies(tape, &[another_number, accepted], question);
+    spoils(tape, &[0, 69], question);
+}
+
+fn of_reencoding(tape: &mut Tape) {
+    let question = |tape: &mut Tape| tape.reencode(280) as u32;
+    tape.settings(spec(1, 16));
+    tape.samples([5]);
+    tape.encode(0, 272);
+    tape.keep_written();
+    lies(tape, &[wrong_count, wrong_sum, refused], question);
+    spoils(tape, &[67, 68, 69], question);
+    let mut damaged = tape.file_bytes().to_vec();
+    damaged[136] = 200;
+    tape.file(&damaged);
+    lies(tape, &[wrong_bits, another_number, accepted], question);
+    spoils(tape, &[0, 69], question);
+}
