@@ -1,4 +1,5 @@
-// Opening, decoding and a step of a walk, each asked of the proved entry and, where it has one, of the host boundary: whether all answer as recorded.
+// Opening, decoding and a step of a walk, each asked of the proved entry and, where it has one, of the host boundary:
+// whether all answer as recorded.
 use format::Answer;
 use format::Frames;
 use format::Header;
@@ -9,12 +10,21 @@ use recorded::Recorded;
 use recorded::Said;
 use recorded::Verdict;
 use recorded::fill;
+use recorded::fill_bytes;
+use recorded::is_answered;
 use recorded::is_recorded;
 use recorded::judged;
 use recorded::of_answer;
 use recorded::of_result;
 use recorded::read_recorded;
 use recorded::spoil;
+ghost use mathlib.Core.Path.{_≡_};
+ghost use lib.ListN.{length};
+ghost use Rattle.format.specs.Decoding.{decodeOf, decodeInto};
+ghost use Rattle.format.specs.Boundary.{hostDecode, hostDecodeInto};
+ghost use Rattle.recorded.specs.Said.{saidBy, saidByHost};
+ghost use Rattle.asked_reading.specs.Opened.{numberOf, isHeader, isOpened, isLength, isRefused};
+ghost use Rattle.asked_reading.specs.Decoded.{DecodesByEntry, DecodesByHost};
 
 // What was recorded of a file that opens.
 struct Opened {
@@ -43,28 +53,34 @@ fn read_opened(list: i32) -> Opened {
     }
 }
 
-fn number_of(format: SampleFormat) -> u32 {
+fn number_of(format: SampleFormat) -> u32
+    ensures { λ r. ⌜ r ≡ numberOf format ⌝ }
+{
     match format {
         SampleFormat::Pcm => 0,
         SampleFormat::Float => 1,
     }
 }
 
-fn is_header(h: Header, want: Opened) -> bool {
+fn is_header(h: Header, want: Opened) -> bool
+    ensures { λ r. ⌜ r ≡ isHeader h want ⌝ }
+{
     let depth = h.depth;
     let format = h.format;
     let mut same = h.channels == want.channels;
-    same = same & (depth.bits() == want.depth);
     same = same & (h.rate == want.rate);
     same = same & (h.frames.0 == want.frames);
     same = same & (h.table == want.table);
     same = same & (h.start == want.start);
     same = same & (h.size == want.size);
     same = same & (h.groups == want.groups);
+    same = same & (depth.bits() == want.depth);
     same & (number_of(format) == want.format)
 }
 
-fn is_opened(answer: Answer, want: Opened) -> bool {
+fn is_opened(answer: Answer, want: Opened) -> bool
+    ensures { λ r. ⌜ r ≡ isOpened (answer .outcome) want ⌝ }
+{
     let outcome = answer.outcome;
     if let Outcome::Opened(h) = outcome {
         is_header(h, want)
@@ -74,7 +90,9 @@ fn is_opened(answer: Answer, want: Opened) -> bool {
 }
 
 // What decoding would write: 4 bytes for each sample.
-fn is_length(result: u64, want: Opened) -> bool {
+fn is_length(result: u64, want: Opened) -> bool
+    ensures { λ r. ⌜ r ≡ isLength result want ⌝ }
+{
     let samples = Frames(want.frames).samples(want.channels);
     if result % 4 != 0 {
         return false;
@@ -82,7 +100,9 @@ fn is_length(result: u64, want: Opened) -> bool {
     result / 4 == samples.0
 }
 
-fn is_refused(said: u32, result: u64, number: u32) -> bool {
+fn is_refused(said: u32, result: u64, number: u32) -> bool
+    ensures { λ r. ⌜ r ≡ isRefused said result number ⌝ }
+{
     if said != number {
         return false;
     }
@@ -105,26 +125,35 @@ pub fn open(list: i32, file: &[u8]) -> Verdict {
     }
 }
 
-fn decode_words(file: &[u8], room: &mut [i32]) -> Said {
+fn decode_words(file: &[u8], room: &mut [i32]) -> Said
+    ensures says { λ r. ⌜ r ≡ saidBy (decodeOf (now (file .entry)) (length (now (room .entry))) .outcome) ⌝ }
+    ensures puts { λ _. ⌜ now (room .exit) ≡ decodeInto (now (file .entry)) (now (room .entry)) ⌝ }
+{
     of_answer(reader::decode_samples(file, room))
 }
 
-fn decode_by_entry(file: &[u8], spoiled: usize, room: &mut [i32], want: Recorded) -> bool {
+fn decode_by_entry(file: &[u8], spoiled: usize, room: &mut [i32], want: Recorded) -> bool
+    ensures { λ r. ⌜ DecodesByEntry (now (file .entry)) spoiled want (now (room .entry)) r (now (room .exit)) ⌝ }
+{
     fill(Container::Words, room, &mut []);
     let said = decode_words(file, room);
     spoil(Container::Words, room, &mut [], spoiled);
     is_recorded(said, want, Container::Words, room, &[])
 }
 
-fn decode_bytes(file: &[u8], room: &mut [u8], bits: u16) -> Said {
+fn decode_bytes(file: &[u8], room: &mut [u8], bits: u16) -> Said
+    ensures says { λ r. ⌜ r ≡ saidByHost (hostDecode (now (file .entry)) (length (now (room .entry)))) bits ⌝ }
+    ensures puts { λ _. ⌜ now (room .exit) ≡ hostDecodeInto (now (file .entry)) (now (room .entry)) ⌝ }
+{
     of_result(ncw::ncw_decode(file, room), bits)
 }
 
-fn decode_by_host(file: &[u8], spoiled: usize, room: &mut [u8], want: Recorded) -> bool {
-    fill(Container::Bytes, &mut [], room);
+fn decode_by_host(file: &[u8], spoiled: usize, room: &mut [u8], want: Recorded) -> bool
+    ensures { λ r. ⌜ DecodesByHost (now (file .entry)) spoiled want (now (room .entry)) r (now (room .exit)) ⌝ }
+{
+    fill_bytes(room);
     let said = decode_bytes(file, room, want.bits);
-    spoil(Container::Bytes, &mut [], room, spoiled);
-    is_recorded(said, want, Container::Bytes, &[], room)
+    is_answered(said, spoiled, room, want)
 }
 
 pub fn decode(

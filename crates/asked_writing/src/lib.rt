@@ -4,22 +4,31 @@ use lent::Container;
 use recorded::Recorded;
 use recorded::Said;
 use recorded::Verdict;
-use recorded::fill;
-use recorded::is_recorded;
+use recorded::fill_bytes;
+use recorded::is_answered;
 use recorded::judged;
 use recorded::of_answer;
 use recorded::of_result;
 use recorded::read_recorded;
-use recorded::spoil;
+use recorded::room_length;
 ghost use mathlib.Core.Path.{_≡_};
 ghost use Prim.Native.Nat.{_≤_};
 ghost use lib.ListN.{length, take};
+ghost use Rattle.format.specs.Lists.{over};
+ghost use Rattle.format.specs.Encoding.{encodeOf, encodeInto};
+ghost use Rattle.format.specs.Reencoding.{reencodeOf, reencodeInto};
+ghost use Rattle.format.specs.Boundary.{modeOf, hostEncode, hostEncodeInto, hostReencode, hostReencodeInto};
+ghost use Rattle.recorded.specs.Said.{saidBy, saidByHost};
+ghost use Rattle.asked_writing.specs.Written.{taken, EncodesByEntry, EncodesByHost};
+ghost use Rattle.asked_writing.specs.Written.{ReencodesByEntry, ReencodesByHost};
 
 // The samples that the bytes are, as many as there is room for; how many.
 fn take_samples(bytes: &[u8], words: &mut [i32]) -> usize
-    ensures { λ r. ⌜ (r ≤ length (now (words .exit))) × (r ≡ length (take r (now (words .exit)))) ⌝ }
+    ensures takes { λ r. ⌜ (let samples = taken (length (now (words .entry))) (now (bytes .entry)) in
+        (r ≡ length samples) × (now (words .exit) ≡ over samples (now (words .entry)))) ⌝ }
+    ensures counts { λ r. ⌜ (r ≤ length (now (words .exit))) × (r ≡ length (take r (now (words .exit)))) ⌝ }
 {
-    let n = lent::count(Container::Bytes, &[], bytes);
+    let n = room_length(Container::Bytes, &[], bytes);
     let mut i: usize = 0;
     while i < words.len() {
         if n <= i {
@@ -31,12 +40,11 @@ fn take_samples(bytes: &[u8], words: &mut [i32]) -> usize
     i
 }
 
-fn is_answered(said: Said, spoiled: usize, room: &mut [u8], want: Recorded) -> bool {
-    spoil(Container::Bytes, &mut [], room, spoiled);
-    is_recorded(said, want, Container::Bytes, &[], room)
-}
-
-fn encode_words(samples: &[i32], p: PcmSpec, mode: u32, room: &mut [u8]) -> Said {
+fn encode_words(samples: &[i32], p: PcmSpec, mode: u32, room: &mut [u8]) -> Said
+    ensures says { λ r. ⌜ (let lent = now (room .entry) in
+        r ≡ saidBy (encodeOf p (modeOf mode) (now (samples .entry)) (length lent) .outcome)) ⌝ }
+    ensures puts { λ _. ⌜ now (room .exit) ≡ encodeInto p (modeOf mode) (now (samples .entry)) (now (room .entry)) ⌝ }
+{
     of_answer(writer::encode_pcm(samples, p, ncw::mode_of(mode), room))
 }
 
@@ -48,7 +56,10 @@ fn encode_by_entry(
     spoiled: usize,
     room: &mut [u8],
     want: Recorded,
-) -> bool {
+) -> bool
+    ensures { λ r. ⌜ EncodesByEntry (now (samples .entry)) p mode spoiled want
+        (now (room .entry)) r (now (room .exit)) ⌝ }
+{
     if 3 <= mode {
         return true;
     }
@@ -57,12 +68,16 @@ fn encode_by_entry(
     }
     let mut words = [0i32; 4096];
     let n = take_samples(samples, &mut words);
-    fill(Container::Bytes, &mut [], room);
+    fill_bytes(room);
     let said = encode_words(&words[..n], p, mode, room);
     is_answered(said, spoiled, room, want)
 }
 
-fn encode_bytes(samples: &[u8], p: PcmSpec, mode: u32, room: &mut [u8], bits: u16) -> Said {
+fn encode_bytes(samples: &[u8], p: PcmSpec, mode: u32, room: &mut [u8], bits: u16) -> Said
+    ensures says { λ r. ⌜ (let lent = now (room .entry) in
+        r ≡ saidByHost (hostEncode (now (samples .entry)) p mode (length lent)) bits) ⌝ }
+    ensures puts { λ _. ⌜ now (room .exit) ≡ hostEncodeInto (now (samples .entry)) p mode (now (room .entry)) ⌝ }
+{
     let result = ncw::ncw_encode(
         samples,
         p.channels,
@@ -81,8 +96,11 @@ fn encode_by_host(
     spoiled: usize,
     room: &mut [u8],
     want: Recorded,
-) -> bool {
-    fill(Container::Bytes, &mut [], room);
+) -> bool
+    ensures { λ r. ⌜ EncodesByHost (now (samples .entry)) p mode spoiled want
+        (now (room .entry)) r (now (room .exit)) ⌝ }
+{
+    fill_bytes(room);
     let said = encode_bytes(samples, p, mode, room, want.bits);
     is_answered(said, spoiled, room, want)
 }
@@ -101,7 +119,12 @@ pub fn encode(
     judged(by_entry & by_host, want)
 }
 
-fn reencode_words(samples: &[i32], p: PcmSpec, old: &[u8], room: &mut [u8]) -> Said {
+fn reencode_words(samples: &[i32], p: PcmSpec, old: &[u8], room: &mut [u8]) -> Said
+    ensures says { λ r. ⌜ (let lent = now (room .entry) in
+        r ≡ saidBy (reencodeOf p (now (samples .entry)) (now (old .entry)) (length lent) .outcome)) ⌝ }
+    ensures puts { λ _. ⌜ (let lent = now (room .entry) in
+        now (room .exit) ≡ reencodeInto p (now (samples .entry)) (now (old .entry)) lent) ⌝ }
+{
     of_answer(template::encode_pcm_with_template(samples, p, old, room))
 }
 
@@ -112,18 +135,26 @@ fn reencode_by_entry(
     spoiled: usize,
     room: &mut [u8],
     want: Recorded,
-) -> bool {
+) -> bool
+    ensures { λ r. ⌜ ReencodesByEntry (now (samples .entry)) p (now (old .entry)) spoiled want
+        (now (room .entry)) r (now (room .exit)) ⌝ }
+{
     if samples.len() % 4 != 0 {
         return true;
     }
     let mut words = [0i32; 4096];
     let n = take_samples(samples, &mut words);
-    fill(Container::Bytes, &mut [], room);
+    fill_bytes(room);
     let said = reencode_words(&words[..n], p, old, room);
     is_answered(said, spoiled, room, want)
 }
 
-fn reencode_bytes(samples: &[u8], p: PcmSpec, old: &[u8], room: &mut [u8], bits: u16) -> Said {
+fn reencode_bytes(samples: &[u8], p: PcmSpec, old: &[u8], room: &mut [u8], bits: u16) -> Said
+    ensures says { λ r. ⌜ (let lent = now (room .entry) in
+        r ≡ saidByHost (hostReencode (now (samples .entry)) p (now (old .entry)) (length lent)) bits) ⌝ }
+    ensures puts { λ _. ⌜ (let lent = now (room .entry) in
+        now (room .exit) ≡ hostReencodeInto (now (samples .entry)) p (now (old .entry)) lent) ⌝ }
+{
     let result = ncw::ncw_reencode(
         samples,
         p.channels,
@@ -142,8 +173,11 @@ fn reencode_by_host(
     spoiled: usize,
     room: &mut [u8],
     want: Recorded,
-) -> bool {
-    fill(Container::Bytes, &mut [], room);
+) -> bool
+    ensures { λ r. ⌜ ReencodesByHost (now (samples .entry)) p (now (old .entry)) spoiled want
+        (now (room .entry)) r (now (room .exit)) ⌝ }
+{
+    fill_bytes(room);
     let said = reencode_bytes(samples, p, old, room, want.bits);
     is_answered(said, spoiled, room, want)
 }

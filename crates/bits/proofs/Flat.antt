@@ -84,7 +84,7 @@ module _ (b raw h p m : ℕ) (l : 1 ≤ b) (u : b ≤ 32) (half : h ≡ 2 ^ (b -
           let k = ltb-false c h e in
           let d : h - suc (c - h) ≡ 2 ^ b - suc c = omega (arith, two, small, full) in
           let q : 2 ^ (b - 1) ≤ c = rw (← half) k in
-          rw (up-high k) (sub-below (c - h) h (omega (arith, two, small, full)) ∙ ap negsuc d ∙ sym (value-neg b c q))
+          rw (up-high k) (sub-below (c - h) h (omega (arith, two, small, full)) ∙ ap negsuc d ∙ sym (value-neg b c q small))
 
   value-64 : SFits w64 (value b c)
   value-64 = record { sfits = lt-of-lt-of-le (value-holds b c l small) (pow-mono {j = 63} (omega arith)) }

@@ -12,7 +12,7 @@ use mir.Syntax.{w32}
 use mir.Val.{toZ, ofZ}
 use borrow.Author.Count.{below-more}
 use Rattle.format.specs.Numbers.{num, value}
-use Rattle.format.specs.Packed.{codes, values}
+use Rattle.format.specs.Packed.{codesIn, values}
 use Rattle.laws.proofs.Digits.{pow-mul, getD-digits}
 use Rattle.laws.proofs.Lengths.{length-values}
 use Rattle.laws.proofs.Signs.{value-pos}
@@ -21,14 +21,14 @@ use Rattle.bits.specs.declared.Next.{Next}
 use Rattle.bits.specs.declared.Pair.{Pair}
 use Rattle.bits.proofs.Steps.{value-is}
 
-codes-at : (b : ℕ) (s : List ℕ) (k : ℕ) → k < 512 → getD (codes b s) k 0 ≡ bitsAt (num 256 s) (b * k) b
-unfolding codes
+codes-at : (b : ℕ) (s : List ℕ) (k : ℕ) → k < 512 → getD (codesIn b s) k 0 ≡ bitsAt (num 256 s) (b * k) b
+unfolding codesIn
 codes-at b s k h = getD-digits (2 ^ b) 512 (num 256 s) k h ∙ ap (λ (x : ℕ). num 256 s / x % 2 ^ b) (sym (pow-mul 2 b k))
 
 values-at : (b : ℕ) (s : List ℕ) (k : ℕ) → k < 512 → getD (values b s) k (pos 0) ≡ value b (bitsAt (num 256 s) (b * k) b)
 unfolding values
 values-at b s k h =
-    ap (getD (map (value b) (codes b s)) k) (sym (value-pos b 0 (pow-pos (b - 1)))) ∙ List·getD-map (value b) (codes b s) k 0 ∙ ap (value b) (codes-at b s k h)
+    ap (getD (map (value b) (codesIn b s)) k) (sym (value-pos b 0 (pow-pos (b - 1)))) ∙ List·getD-map (value b) (codesIn b s) k 0 ∙ ap (value b) (codes-at b s k h)
 
 -- ---- the loop
 module _ (b : ℕ) (s : List ℕ) where

@@ -4,7 +4,7 @@ use mathlib.Core.Path.{_≡_, refl}
 use mathlib.Core.List.{List, [], _∷_, _++_}
 use lib.ListN.{replicate}
 use lib.IntN.{pos, negsuc}
-use Rattle.format.specs.Encoding.{fileOf}
+use Rattle.format.specs.Encoding.{encodedFile}
 use Rattle.format.specs.Boundary.{samplesFrom, sampleBytes, hostOpen, hostDecode, hostDecodeInto, hostEncode, hostEncodeInto, hostReencode, hostReencodeInto}
 use Rattle.format.specs.declared.settings.StereoMode.the-variants.{Auto}
 use Rattle.format.proofs.Made.{document-01, pcm, changed, five}
@@ -22,7 +22,7 @@ pub record Boundaries : Type 0 where
   pub back : sampleBytes (negsuc 1 ∷ pos 256 ∷ []) ≡ 0xFE ∷ 0xFF ∷ 0xFF ∷ 0xFF ∷ 0x00 ∷ 0x01 ∷ 0x00 ∷ 0x00 ∷ []
   -- opening says what decoding would write, in bytes
   pub opens : hostOpen five ≡ 4
-  pub opens-stereo : hostOpen (fileOf (pcm 2 16) Auto (pos 1 ∷ pos 2 ∷ [])) ≡ 8
+  pub opens-stereo : hostOpen (encodedFile (pcm 2 16) Auto (pos 1 ∷ pos 2 ∷ [])) ≡ 8
   pub no-depth : hostOpen (changed 10 2 12 five) ≡ no 11
   -- room is counted in bytes
   pub decodes : hostDecode five 4 ≡ 4

@@ -11,7 +11,7 @@ use Rattle.format.specs.Numbers.{numAt}
 use Rattle.format.specs.Header.{fieldsOf}
 use Rattle.format.specs.Blocks.{baseOf, bitsOf, samplesOf}
 use Rattle.format.specs.Decoding.{checkDecode}
-use Rattle.format.specs.Encoding.{width, takesMid, groupOf, groupAt, fileOf, checkEncode, encodeOf, encodeInto}
+use Rattle.format.specs.Encoding.{leastWidth, takesMid, encodedGroup, encodedGroupAt, encodedFile, checkEncode, encodeOf, encodeInto}
 use Rattle.format.specs.declared.refusals.Refusal.the-variants.{NotStereo, OutputTooShort}
 use Rattle.format.specs.declared.settings.PcmSpec.{PcmSpec}
 use Rattle.format.specs.declared.settings.StereoMode.the-variants.{Auto, Direct, MidSide}
@@ -54,35 +54,35 @@ pub record Encodings : Type 0 where
   pub negative-odd : said (checkEncode (pcm 2 16) MidSide (negsuc 0 ∷ pos 1 ∷ [])) ≡ 0
   pub negative-differs : said (checkEncode (pcm 2 16) MidSide (negsuc 0 ∷ pos 2 ∷ [])) ≡ 35
   -- the width, to its end
-  pub width-31 : width (pos 1073741823 ∷ []) ≡ 31
-  pub width-32 : width (pos 1073741824 ∷ []) ≡ 32
-  pub width-lowest : width (negsuc 2147483647 ∷ []) ≡ 32
+  pub width-31 : leastWidth (pos 1073741823 ∷ []) ≡ 31
+  pub width-32 : leastWidth (pos 1073741824 ∷ []) ≡ 32
+  pub width-lowest : leastWidth (negsuc 2147483647 ∷ []) ≡ 32
   -- 512 frames: data offset 128; 513: 132
-  pub offset-512 : fieldsOf (fileOf (pcm 1 16) Auto (replicate 512 (pos 1))) .start ≡ 128
-  pub offset-513 : fieldsOf (fileOf (pcm 1 16) Auto (replicate 513 (pos 1))) .start ≡ 132
+  pub offset-512 : fieldsOf (encodedFile (pcm 1 16) Auto (replicate 512 (pos 1))) .start ≡ 128
+  pub offset-513 : fieldsOf (encodedFile (pcm 1 16) Auto (replicate 513 (pos 1))) .start ≡ 132
   -- padding by the last sample; the base in raw blocks too
-  pub padding : drop 2 (samplesOf 16 (groupOf (pcm 1 16) Direct (pos 8 ∷ pos 9 ∷ []))) ≡ replicate 510 (pos 9)
-  pub raw-base : baseOf (groupOf (pcm 1 16) Direct (negsuc 32767 ∷ pos 32767 ∷ [])) ≡ negsuc 32767
-  pub raw-bits : bitsOf (groupOf (pcm 1 16) Direct (negsuc 32767 ∷ pos 32767 ∷ [])) ≡ negsuc 15
-  pub raw-24 : bitsOf (groupOf (pcm 1 24) Direct (negsuc 8388607 ∷ pos 8388607 ∷ [])) ≡ negsuc 23
+  pub padding : drop 2 (samplesOf 16 (encodedGroup (pcm 1 16) Direct (pos 8 ∷ pos 9 ∷ []))) ≡ replicate 510 (pos 9)
+  pub raw-base : baseOf (encodedGroup (pcm 1 16) Direct (negsuc 32767 ∷ pos 32767 ∷ [])) ≡ negsuc 32767
+  pub raw-bits : bitsOf (encodedGroup (pcm 1 16) Direct (negsuc 32767 ∷ pos 32767 ∷ [])) ≡ negsuc 15
+  pub raw-24 : bitsOf (encodedGroup (pcm 1 24) Direct (negsuc 8388607 ∷ pos 8388607 ∷ [])) ≡ negsuc 23
   -- pair (3, 5) by MidSide: bases 4 and −1, both blocks with flags 1, though no smaller
-  pub pair-mid : baseOf (groupOf (pcm 2 16) MidSide (pos 3 ∷ pos 5 ∷ [])) ≡ pos 4
-  pub pair-side : baseOf (drop 144 (groupOf (pcm 2 16) MidSide (pos 3 ∷ pos 5 ∷ []))) ≡ negsuc 0
-  pub pair-flags : numAt 10 2 (groupOf (pcm 2 16) MidSide (pos 3 ∷ pos 5 ∷ [])) ≡ 1
-  pub pair-flags-2 : numAt 154 2 (groupOf (pcm 2 16) MidSide (pos 3 ∷ pos 5 ∷ [])) ≡ 1
-  pub pair-back : decodesTo (fileOf (pcm 2 16) MidSide (pos 3 ∷ pos 5 ∷ [])) (pos 3 ∷ pos 5 ∷ [])
+  pub pair-mid : baseOf (encodedGroup (pcm 2 16) MidSide (pos 3 ∷ pos 5 ∷ [])) ≡ pos 4
+  pub pair-side : baseOf (drop 144 (encodedGroup (pcm 2 16) MidSide (pos 3 ∷ pos 5 ∷ []))) ≡ negsuc 0
+  pub pair-flags : numAt 10 2 (encodedGroup (pcm 2 16) MidSide (pos 3 ∷ pos 5 ∷ [])) ≡ 1
+  pub pair-flags-2 : numAt 154 2 (encodedGroup (pcm 2 16) MidSide (pos 3 ∷ pos 5 ∷ [])) ≡ 1
+  pub pair-back : decodesTo (encodedFile (pcm 2 16) MidSide (pos 3 ∷ pos 5 ∷ [])) (pos 3 ∷ pos 5 ∷ [])
   -- Auto: mid/side where strictly smaller and representable; mono is direct
   pub auto-mid : takesMid Auto 2 16 together ≡ true
   pub auto-odd : takesMid Auto 2 16 (pos 101 ∷ pos 100 ∷ together) ≡ false
   pub auto-mono : takesMid Auto 1 16 together ≡ false
-  pub auto-flags : numAt 10 2 (groupOf (pcm 2 16) Auto together) ≡ 1
-  pub auto-first : numAt 10 2 (groupAt (pcm 2 16) Auto mixed 0) ≡ 1
-  pub auto-second : numAt 10 2 (groupAt (pcm 2 16) Auto mixed 1) ≡ 0
-  pub direct-flags : numAt 10 2 (groupOf (pcm 2 16) Direct together) ≡ 0
+  pub auto-flags : numAt 10 2 (encodedGroup (pcm 2 16) Auto together) ≡ 1
+  pub auto-first : numAt 10 2 (encodedGroupAt (pcm 2 16) Auto mixed 0) ≡ 1
+  pub auto-second : numAt 10 2 (encodedGroupAt (pcm 2 16) Auto mixed 1) ≡ 0
+  pub direct-flags : numAt 10 2 (encodedGroup (pcm 2 16) Direct together) ≡ 0
   -- two groups, there and back
-  pub ramp-fine : said (checkDecode (fileOf (pcm 1 16) Auto (ramp 600))) ≡ 0
-  pub ramp-back : decodesTo (fileOf (pcm 1 16) Auto (ramp 600)) (ramp 600)
-  pub stereo-back : decodesTo (fileOf (pcm 2 16) Auto (ramp 1026)) (ramp 1026)
+  pub ramp-fine : said (checkDecode (encodedFile (pcm 1 16) Auto (ramp 600))) ≡ 0
+  pub ramp-back : decodesTo (encodedFile (pcm 1 16) Auto (ramp 600)) (ramp 600)
+  pub stereo-back : decodesTo (encodedFile (pcm 2 16) Auto (ramp 1026)) (ramp 1026)
   -- 50 last: one byte short, and nothing changed
   pub room : encodeOf (pcm 1 16) Auto (pos 5 ∷ []) 272 ≡ wrote 272
   pub room-short : encodeOf (pcm 1 16) Auto (pos 5 ∷ []) 271 ≡ refusedBy OutputTooShort

@@ -7,7 +7,7 @@ use lib.IntN.{ℤ, pos, negsuc}
 use Rattle.format.specs.Numbers.{value}
 use Rattle.format.specs.Packed.{packing}
 use Rattle.format.specs.MidSide.{left, right}
-use Rattle.format.specs.Encoding.{block}
+use Rattle.format.specs.Encoding.{blockBytes}
 use Rattle.format.specs.declared.settings.SampleFormat.the-variants.{Float}
 use Rattle.format.proofs.Made.{document-01, decodesTo, laid}
 
@@ -26,7 +26,7 @@ two l r = bits l ∷ bits r ∷ []
 abbrev floatPair : ℕ → ℕ → List ℕ
 floatPair m s =
     laid 2 32 1 []
-    ((block (pos 0) (negsuc 31) 3 (packing 32 (bits m ∷ replicate 511 (pos 0))) ++ block (pos 0) (negsuc 31) 3 (packing 32 (bits s ∷ replicate 511 (pos 0)))) ∷ [])
+    ((blockBytes (pos 0) (negsuc 31) 3 (packing 32 (bits m ∷ replicate 511 (pos 0))) ++ blockBytes (pos 0) (negsuc 31) 3 (packing 32 (bits s ∷ replicate 511 (pos 0)))) ∷ [])
     []
 
 pub record Floats : Type 0 where
@@ -54,8 +54,8 @@ pub record Floats : Type 0 where
   pub file : decodesTo (floatPair 0x3F80_0000 0x3F80_0000) (two 0x4000_0000 0x0000_0000)
   pub nan-file : decodesTo (floatPair 0x7F80_0000 0x7F80_0000) (two 0x7F80_0000 0x7FC0_0000)
   -- differences add up on the bit patterns; raw at a depth of 16 the pattern is the sign-extended 16 bits
-  pub on-patterns : decodesTo (laid 1 32 2 [] (block (pos 0x3F80_0000) (pos 1) 2 (replicate 64 255) ∷ []) []) (two 0x3F80_0000 0x3F7F_FFFF)
-  pub depth-16 : decodesTo (laid 1 16 1 [] (block (pos 0) (pos 0) 2 (replicate 1024 0x81) ∷ []) []) (bits 0xFFFF_8181 ∷ [])
+  pub on-patterns : decodesTo (laid 1 32 2 [] (blockBytes (pos 0x3F80_0000) (pos 1) 2 (replicate 64 255) ∷ []) []) (two 0x3F80_0000 0x3F7F_FFFF)
+  pub depth-16 : decodesTo (laid 1 16 1 [] (blockBytes (pos 0) (pos 0) 2 (replicate 1024 0x81) ∷ []) []) (bits 0xFFFF_8181 ∷ [])
 
 pub floats : Floats
 unfolding document-01

@@ -5,7 +5,7 @@ use mathlib.Core.List.{List, [], _∷_, _++_}
 use lib.ListN.{take, replicate}
 use lib.IntN.{pos}
 use Rattle.format.specs.Opening.{checkOpen, openOf}
-use Rattle.format.specs.Encoding.{block}
+use Rattle.format.specs.Encoding.{blockBytes}
 use Rattle.format.specs.declared.units.Depth.the-variants.{Eight, Sixteen, ThirtyTwo}
 use Rattle.format.specs.declared.settings.SampleFormat.the-variants.{Pcm, Float}
 use Rattle.format.specs.declared.answers.Outcome.the-variants.{Opened}
@@ -13,7 +13,7 @@ use Rattle.format.proofs.Made.{document-01, said, saidAfter, laid, changed, fiv
 
 -- a block of differences at width 1, and a mono file of two groups of such blocks: 513 frames, table at 120, data at 132
 abbrev small : List ℕ
-small = block (pos 7) (pos 1) 0 (replicate 64 255)
+small = blockBytes (pos 7) (pos 1) 0 (replicate 64 255)
 
 abbrev twoGroups : List ℕ
 twoGroups = laid 1 16 513 [] (small ∷ small ∷ []) []
@@ -60,11 +60,11 @@ pub record Openings : Type 0 where
   pub signature-30 : said (checkOpen (changed 4 1 0x30 five)) ≡ 0
   pub signature-32 : said (checkOpen (changed 4 1 0x32 five)) ≡ 2
   pub gaps : said (checkOpen (laid 1 16 1 (1 ∷ 2 ∷ 3 ∷ []) (small ∷ []) (4 ∷ 5 ∷ []))) ≡ 0
-  pub bits-33 : said (checkOpen (laid 1 16 1 [] (block (pos 0) (pos 33) 0 (replicate 64 0) ∷ []) [])) ≡ 0
+  pub bits-33 : said (checkOpen (laid 1 16 1 [] (blockBytes (pos 0) (pos 33) 0 (replicate 64 0) ∷ []) [])) ≡ 0
   -- what opening returns
   pub five-opens : openOf five
       ≡ record { outcome = Opened (record { channels = 1; depth = Sixteen; rate = 44100; frames = record { 0 = 1 }; table = 120; start = 128; size = 144; groups = 1; format = Pcm }) }
-  pub float-opens : openOf (laid 1 32 2 (0 ∷ []) (block (pos 0) (pos 1) 6 (replicate 64 0) ∷ []) [])
+  pub float-opens : openOf (laid 1 32 2 (0 ∷ []) (blockBytes (pos 0) (pos 1) 6 (replicate 64 0) ∷ []) [])
       ≡ record { outcome = Opened (record { channels = 1; depth = ThirtyTwo; rate = 44100; frames = record { 0 = 2 }; table = 121; start = 129; size = 80; groups = 1; format = Float }) }
   pub floats-open : openOf (laid 1 8 513 [] (changed 10 2 2 small ∷ small ∷ []) [])
       ≡ record { outcome = Opened (record { channels = 1; depth = Eight; rate = 44100; frames = record { 0 = 513 }; table = 120; start = 132; size = 160; groups = 2; format = Float }) }

@@ -6,8 +6,8 @@ use lib.ListN.{take, replicate}
 use lib.IntN.{ℤ, pos, negsuc}
 use Rattle.format.specs.Answers.{refusedBy, wrote}
 use Rattle.format.specs.Packed.{packing}
-use Rattle.format.specs.Encoding.{block, fileOf}
-use Rattle.format.specs.Reencoding.{checkReencode, refileOf, reencodeOf, reencodeInto}
+use Rattle.format.specs.Encoding.{blockBytes, encodedFile}
+use Rattle.format.specs.Reencoding.{checkReencode, reencodedFile, reencodeOf, reencodeInto}
 use Rattle.format.specs.declared.refusals.Checked.the-variants.{No}
 use Rattle.format.specs.declared.refusals.Refusal.the-variants.{BitsWord, WidthTooSmall, OutputTooShort}
 use Rattle.format.specs.declared.settings.StereoMode.the-variants.{MidSide}
@@ -29,10 +29,10 @@ both a b = laid 2 16 1 [] ((a ++ b) ∷ []) []
 
 -- differences at width 2; raw at width 32, with a padding of its own or of 3
 abbrev small : ℕ → List ℕ
-small flags = block (pos 5) (pos 2) flags (replicate 128 0)
+small flags = blockBytes (pos 5) (pos 2) flags (replicate 128 0)
 
 abbrev rawThen : ℤ → ℕ → ℤ → List ℕ
-rawThen padding flags z = block (pos 77) (negsuc 31) flags (packing 32 (z ∷ replicate 511 padding))
+rawThen padding flags z = blockBytes (pos 77) (negsuc 31) flags (packing 32 (z ∷ replicate 511 padding))
 
 abbrev raw : ℕ → ℤ → List ℕ
 raw = rawThen (pos 3)
@@ -47,7 +47,7 @@ twelve flags = changed 10 2 flags (replicate 12 0)
 
 -- raw at width 1
 abbrev bit : List ℕ
-bit = block (pos 5) (negsuc 0) 0 (replicate 64 0)
+bit = blockBytes (pos 5) (negsuc 0) 0 (replicate 64 0)
 
 -- two groups of 80 bytes: 513 mono frames, table at 120, data at 132
 abbrev twoGroups : List ℕ
@@ -65,14 +65,14 @@ faulty = take 119 five
 
 -- differences at width 3: the last is 3, the padding word and the base are any
 abbrev worn : List ℕ
-worn = changed 12 4 0xDEADBEEF (block (pos 5) (pos 3) 0 (packing 3 ((pos 1 ∷ replicate 510 (pos 0)) ++ (pos 3 ∷ []))))
+worn = changed 12 4 0xDEADBEEF (blockBytes (pos 5) (pos 3) 0 (packing 3 ((pos 1 ∷ replicate 510 (pos 0)) ++ (pos 3 ∷ []))))
 
 abbrev wornAfter : List ℕ
-wornAfter = changed 12 4 0xDEADBEEF (block (pos 4) (pos 3) 0 (packing 3 ((pos 2 ∷ replicate 510 (pos 0)) ++ (pos 3 ∷ []))))
+wornAfter = changed 12 4 0xDEADBEEF (blockBytes (pos 4) (pos 3) 0 (packing 3 ((pos 2 ∷ replicate 510 (pos 0)) ++ (pos 3 ∷ []))))
 
 -- all 512 frames active: differences of 0, and a last one of 3
 abbrev full : ℤ → List ℕ
-full base = laid 1 16 512 [] (block base (pos 3) 0 (packing 3 (replicate 511 (pos 0) ++ (pos 3 ∷ []))) ∷ []) []
+full base = laid 1 16 512 [] (blockBytes base (pos 3) 0 (packing 3 (replicate 511 (pos 0) ++ (pos 3 ∷ []))) ∷ []) []
 
 pub record Reencodings : Type 0 where
   -- 30, 31, 32 before the template's 1, 2, 40, 41, 42, and those before its groups: each fault more is found before all that were there
@@ -102,15 +102,15 @@ pub record Reencodings : Type 0 where
   pub twelve-plain : mono (pos 5 ∷ []) (one (twelve 0)) ≡ 1
   pub twelve-mid : mono (pos 5 ∷ []) (one (twelve 1)) ≡ 34
   pub mark-mid : mono (pos 5 ∷ []) (one (changed 0 1 0 (small 1))) ≡ 34
-  pub mark : mono (pos 5 ∷ []) (one (changed 0 1 0 (block (pos 0) (pos 0) 2 []))) ≡ 3
+  pub mark : mono (pos 5 ∷ []) (one (changed 0 1 0 (blockBytes (pos 0) (pos 0) 2 []))) ≡ 3
   pub flags-3-odd : stereo (pos 5) (pos 6) (both (small 3) (small 0)) ≡ 35
   pub flags-3-even : stereo (pos 5) (pos 5) (both (small 3) (small 0)) ≡ 45
   -- 44 before 45 before 4 before 1 (values); 46 after the channels
-  pub bits-0 : mono (pos 5 ∷ []) (one (block (pos 5) (pos 0) 2 [])) ≡ 44
-  pub bits-1 : mono (pos 5 ∷ []) (one (block (pos 5) (pos 1) 2 [])) ≡ 44
-  pub flags-2 : mono (pos 5 ∷ []) (one (block (pos 5) (pos 33) 2 [])) ≡ 45
-  pub word : checkReencode (pcm 1 16) (pos 5 ∷ []) (one (block (pos 5) (pos 33) 0 [])) ≡ No (BitsWord (pos 33))
-  pub values : mono (pos 9 ∷ []) (one (block (pos 5) (pos 2) 0 (replicate 127 0))) ≡ 1
+  pub bits-0 : mono (pos 5 ∷ []) (one (blockBytes (pos 5) (pos 0) 2 [])) ≡ 44
+  pub bits-1 : mono (pos 5 ∷ []) (one (blockBytes (pos 5) (pos 1) 2 [])) ≡ 44
+  pub flags-2 : mono (pos 5 ∷ []) (one (blockBytes (pos 5) (pos 33) 2 [])) ≡ 45
+  pub word : checkReencode (pcm 1 16) (pos 5 ∷ []) (one (blockBytes (pos 5) (pos 33) 0 [])) ≡ No (BitsWord (pos 33))
+  pub values : mono (pos 9 ∷ []) (one (blockBytes (pos 5) (pos 2) 0 (replicate 127 0))) ≡ 1
   pub does-not-fit : mono (pos 9 ∷ []) (one (small 0 ++ (0 ∷ []))) ≡ 36
   pub left-over : mono (pos 5 ∷ []) (one (small 0 ++ (0 ∷ []))) ≡ 46
   -- in a group the channels in order, each with its 36; then the next group
@@ -121,7 +121,7 @@ pub record Reencodings : Type 0 where
   pub six : mono (pos 6 ∷ []) five ≡ 0
   pub seven : mono (pos 7 ∷ []) five ≡ 0
   pub three : mono (pos 3 ∷ []) five ≡ 36
-  pub four-back : decodesTo (refileOf (pos 4 ∷ []) five) (pos 4 ∷ [])
+  pub four-back : decodesTo (reencodedFile (pos 4 ∷ []) five) (pos 4 ∷ [])
   -- bits −1 is accepted: raw at width 1
   pub minus-1 : mono zeros twoGroups ≡ 0
   -- what stays: the padding word, the padded samples, the last difference; the base of a raw block
@@ -131,11 +131,11 @@ pub record Reencodings : Type 0 where
   -- the second block's flag stays and decides nothing; the other signature stays; bytes around stay
   pub second-flag : reencodesTo 2 (pos 4 ∷ pos 6 ∷ []) (both (raw 0 (pos 1)) (raw 1 (pos 2))) (both (raw 0 (pos 4)) (raw 1 (pos 6)))
   pub signature-30 : reencodesTo 1 (pos 5 ∷ []) (changed 4 1 0x30 five) (changed 4 1 0x30 five)
-  pub unknown-bytes : reencodesTo 1 (pos 4 ∷ []) (changed 40 4 0xABCDEF01 five) (changed 40 4 0xABCDEF01 (refileOf (pos 4 ∷ []) five))
+  pub unknown-bytes : reencodesTo 1 (pos 4 ∷ []) (changed 40 4 0xABCDEF01 five) (changed 40 4 0xABCDEF01 (reencodedFile (pos 4 ∷ []) five))
   pub around : reencodesTo 1 (pos 5 ∷ []) (laid 1 16 1 (1 ∷ 2 ∷ []) (small 0 ∷ []) (3 ∷ [])) (laid 1 16 1 (1 ∷ 2 ∷ []) (small 0 ∷ []) (3 ∷ []))
   -- mid/side by the first block's flag; parity
-  pub pair-back : decodesTo (refileOf (pos 4 ∷ pos 6 ∷ []) (fileOf (pcm 2 16) MidSide (pos 3 ∷ pos 5 ∷ []))) (pos 4 ∷ pos 6 ∷ [])
-  pub pair-odd : stereo (pos 4) (pos 5) (fileOf (pcm 2 16) MidSide (pos 3 ∷ pos 5 ∷ [])) ≡ 35
+  pub pair-back : decodesTo (reencodedFile (pos 4 ∷ pos 6 ∷ []) (encodedFile (pcm 2 16) MidSide (pos 3 ∷ pos 5 ∷ []))) (pos 4 ∷ pos 6 ∷ [])
+  pub pair-odd : stereo (pos 4) (pos 5) (encodedFile (pcm 2 16) MidSide (pos 3 ∷ pos 5 ∷ [])) ≡ 35
   -- a template with its own samples is itself, but for a mid/side pair that left 32 bits
   pub same-again : reencodesTo 1 (pos 5 ∷ []) five (five)
   pub lowest-accepted : stereo (pos 0) (pos 0) lowest ≡ 0

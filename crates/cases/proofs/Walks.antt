@@ -6,14 +6,14 @@ use lib.ListN.{take, replicate}
 use lib.IntN.{ℤ, pos}
 use Rattle.format.specs.Answers.{refusedBy, read}
 use Rattle.format.specs.Walking.{stepOf, nextOf, stepInto}
-use Rattle.format.specs.Encoding.{block}
+use Rattle.format.specs.Encoding.{blockBytes}
 use Rattle.format.specs.declared.refusals.Refusal.the-variants.{TooShort, BytesLeft, OutputTooShort}
 use Rattle.format.specs.declared.answers.Outcome.the-variants.{Finished}
 use Rattle.format.specs.declared.answers.Answer.{Answer}
 use Rattle.format.proofs.Made.{document-01, laid}
 
 abbrev group : ℕ → ℤ → List ℕ
-group more base = block base (pos 1) 0 (replicate 64 0) ++ replicate more 0
+group more base = blockBytes base (pos 1) 0 (replicate 64 0) ++ replicate more 0
 
 abbrev good : List ℕ
 good = laid 1 16 513 [] (group 0 (pos 3) ∷ group 0 (pos 4) ∷ []) []

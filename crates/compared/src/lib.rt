@@ -2,7 +2,11 @@
 use block::BlockHeader;
 use format::Coding;
 use format::Header;
-ghost use Prim.Native.Nat.{_≤_};
+ghost use mathlib.Core.Path.{_≡_};
+ghost use Prim.Native.Nat.{_+_, _*_, _≤_};
+ghost use lib.ListN.{length};
+ghost use Rattle.compared.specs.Same.{sameByte, sameSample, oneIf, counted};
+ghost use Rattle.compared.specs.Kept.{comparedFrom, isHeaderKept, blockAt, isKept};
 
 // Of so many, how many are the same.
 pub struct Count {
@@ -11,22 +15,26 @@ pub struct Count {
 }
 
 fn one(yes: bool) -> usize
-    ensures { λ r. ⌜ r ≤ 1 ⌝ }
+    ensures { λ r. ⌜ r ≡ oneIf yes ⌝ }
 {
     if yes { 1 } else { 0 }
 }
 
-fn is_same_byte(a: &[u8], b: &[u8], i: usize) -> bool {
-    if a.len() <= i {
+fn is_same_byte(old: &[u8], new: &[u8], i: usize) -> bool
+    ensures { λ r. ⌜ r ≡ sameByte (now (old .entry)) (now (new .entry)) i ⌝ }
+{
+    if old.len() <= i {
         return false;
     }
-    if b.len() <= i {
+    if new.len() <= i {
         return false;
     }
-    a[i] == b[i]
+    old[i] == new[i]
 }
 
-fn is_same_sample(a: &[i32], b: &[i32], i: usize) -> bool {
+fn is_same_sample(a: &[i32], b: &[i32], i: usize) -> bool
+    ensures { λ r. ⌜ r ≡ sameSample (now (a .entry)) (now (b .entry)) i ⌝ }
+{
     if a.len() <= i {
         return false;
     }
@@ -37,19 +45,23 @@ fn is_same_sample(a: &[i32], b: &[i32], i: usize) -> bool {
 }
 
 // The bytes from `start` on, before `end`.
-pub fn same_bytes(a: &[u8], b: &[u8], start: usize, end: usize) -> Count {
+pub fn same_bytes(old: &[u8], new: &[u8], start: usize, end: usize) -> Count
+    ensures { λ r. ⌜ r ≡ counted (sameByte (now (old .entry)) (now (new .entry))) start end ⌝ }
+{
     let mut same: usize = 0;
     let mut all: usize = 0;
     let mut i = start;
     while i < end {
-        same += one(is_same_byte(a, b, i));
+        same += one(is_same_byte(old, new, i));
         all += 1;
         i += 1;
     }
     Count { same, all }
 }
 
-pub fn same_samples(a: &[i32], b: &[i32], n: usize) -> Count {
+pub fn same_samples(a: &[i32], b: &[i32], n: usize) -> Count
+    ensures { λ r. ⌜ r ≡ counted (sameSample (now (a .entry)) (now (b .entry))) 0 n ⌝ }
+{
     let mut same: usize = 0;
     let mut i: usize = 0;
     while i < n {
@@ -65,27 +77,36 @@ struct Block {
     pub end: usize,
 }
 
-// The header that both begin with, but for the base of differences.
-fn is_header_kept(old: &[u8], new: &[u8], coding: Coding) -> bool {
-    let mut start: usize = 4;
-    if let Coding::Differences(_) = coding {
-        start = 8;
+// Where the bytes of a header begin that are compared beside the mark: the base of differences is not.
+fn compared_from(coding: Coding) -> usize
+    ensures { λ r. ⌜ r ≡ comparedFrom coding ⌝ }
+{
+    match coding {
+        Coding::Differences(_) => 8,
+        Coding::Raw(_) => 4,
+        Coding::Beyond => 4,
     }
-    let mark = same_bytes(old, new, 0, 4);
-    let rest = same_bytes(old, new, start, 16);
+}
+
+// The header of the block that begins there, but for the base of differences.
+fn is_header_kept(old: &[u8], new: &[u8], at: usize, coding: Coding) -> bool
+    requires { ⌜ at + 16 ≤ length (now old) ⌝ }
+    ensures { λ r. ⌜ r ≡ isHeaderKept coding (now (old .entry)) (now (new .entry)) at ⌝ }
+{
+    let mark = same_bytes(old, new, at, at + 4);
+    let rest = same_bytes(old, new, at + compared_from(coding), at + 16);
     mark.same == mark.all && rest.same == rest.all
 }
 
 // The block that begins there; where no whole one does, it ends there too.
-fn block_at(old: &[u8], new: &[u8], at: usize, depth: u16) -> Block {
+fn block_at(old: &[u8], new: &[u8], at: usize, depth: u16) -> Block
+    ensures { λ r. ⌜ r ≡ blockAt depth (now (old .entry)) (now (new .entry)) at ⌝ }
+{
     let none = Block {
         is_kept: false,
         end: at,
     };
     if old.len() < at {
-        return none;
-    }
-    if new.len() < at {
         return none;
     }
     if old.len() - at < 16 {
@@ -98,18 +119,22 @@ fn block_at(old: &[u8], new: &[u8], at: usize, depth: u16) -> Block {
         return none;
     }
     Block {
-        is_kept: is_header_kept(&old[at..], &new[at..], coding),
+        is_kept: is_header_kept(old, new, at, coding),
         end: at + size,
     }
 }
 
 // A group has one block per channel.
-pub fn block_count(h: Header) -> usize {
+pub fn block_count(h: Header) -> usize
+    ensures { λ r. ⌜ r ≡ h .groups * h .channels ⌝ }
+{
     h.groups as usize * h.channels as usize
 }
 
 // The headers of so many blocks, which follow each other from `start` on.
-pub fn same_headers(old: &[u8], new: &[u8], depth: u16, start: usize, all: usize) -> Count {
+pub fn same_headers(old: &[u8], new: &[u8], depth: u16, start: usize, all: usize) -> Count
+    ensures { λ r. ⌜ r ≡ counted (isKept depth (now (old .entry)) (now (new .entry)) start) 0 all ⌝ }
+{
     let mut same: usize = 0;
     let mut at = start;
     for i in 0..all {

@@ -1,8 +1,12 @@
-// How often each question was answered by each number; then how many were as recorded and how many were not, and how many were false on purpose and found.
+// How often each question was answered by each number; then how many were as recorded and how many were not, and how
+// many were false on purpose and found.
 use recorded::Verdict;
 use report::print;
 use report::print_number;
 use std::num::wrapping_add_u64;
+ghost use mathlib.Core.Path.{_≡_};
+ghost use lib.ListN.{getD};
+ghost use Rattle.counted.specs.Counts.{placeOf, others, counted, talliedFalse, tallied};
 
 const AS_RECORDED: usize = 1280;
 
@@ -12,29 +16,39 @@ const FALSE: usize = 1282;
 
 const FOUND: usize = 1283;
 
-fn count(counts: &mut [u64], at: usize) {
+fn count(counts: &mut [u64], at: usize)
+    ensures { λ _. ⌜ now (counts .exit) ≡ counted (now (counts .entry)) at ⌝ }
+{
     if at < counts.len() {
         counts[at] = wrapping_add_u64(counts[at], 1);
     }
 }
 
-fn count_of(counts: &[u64], at: usize) -> u64 {
+fn count_of(counts: &[u64], at: usize) -> u64
+    ensures { λ r. ⌜ r ≡ getD (now (counts .entry)) at 0 ⌝ }
+{
     if at < counts.len() { counts[at] } else { 0 }
 }
 
 // The place of an answer: 256 numbers for each question.
-fn place_of(kind: u32, number: u32) -> usize {
+fn place_of(kind: u32, number: u32) -> usize
+    ensures { λ r. ⌜ r ≡ placeOf kind number ⌝ }
+{
     (kind % 16 * 256 + number % 256) as usize
 }
 
-fn count_other(counts: &mut [u64], item: u64) {
+fn count_other(counts: &mut [u64], item: u64)
+    ensures { λ _. ⌜ now (counts .exit) ≡ counted (now (counts .entry)) others ⌝ }
+{
     print(b"item ");
     print_number(item);
     print(b": not as recorded\n");
     count(counts, OTHERS);
 }
 
-fn tally_false(counts: &mut [u64], item: u64, is_same: bool) {
+fn tally_false(counts: &mut [u64], item: u64, is_same: bool)
+    ensures { λ _. ⌜ now (counts .exit) ≡ talliedFalse (now (counts .entry)) «is_same» ⌝ }
+{
     count(counts, FALSE);
     if is_same {
         count_other(counts, item);
@@ -44,7 +58,9 @@ fn tally_false(counts: &mut [u64], item: u64, is_same: bool) {
 }
 
 // The answer to the item of that number and kind, which may be false on purpose.
-pub fn tally(counts: &mut [u64], item: u64, kind: u32, is_false: bool, verdict: Verdict) {
+pub fn tally(counts: &mut [u64], item: u64, kind: u32, is_false: bool, verdict: Verdict)
+    ensures { λ _. ⌜ now (counts .exit) ≡ tallied (now (counts .entry)) kind «is_false» verdict ⌝ }
+{
     if is_false {
         tally_false(counts, item, verdict.is_same);
         return;

@@ -7,17 +7,17 @@ use lib.IntN.{ℤ, pos}
 use lib.Ieee as Ieee
 use Rattle.format.specs.Lists.{tab, joined, from, over, lastOr, pairwise, every, anyBelow, same, isIn}
 use Rattle.format.specs.Numbers.{num, digits, le, numAt}
-use Rattle.format.specs.Header.{signature, isSignature, fieldsOf, groupsOf, entry, group}
-use Rattle.format.specs.Packed.{codes, bytes, values, packing, coding, widthOf, isBeyond, rebuilt}
-use Rattle.format.specs.Blocks.{blockMark, isBlock, baseOf, bitsOf, midBit, floatBit, codingOf, sizeOf, decoded, samplesOf, rest}
+use Rattle.format.specs.Header.{signature, isSignature, fieldsOf, groupsOf, entry, groupBytes}
+use Rattle.format.specs.Packed.{codesIn, runOf, values, packing, coding, widthOf, isBeyond, rebuilt}
+use Rattle.format.specs.Blocks.{blockMark, isBlock, baseOf, bitsOf, midBit, floatBit, codingOf, sizeOf, decoded, samplesOf, fromBlock}
 use Rattle.format.specs.MidSide.{floatOf, patternOf, left, right, leftRight}
-use Rattle.format.specs.Units.{within, depthWord, isDepth, depthOf, framesIn}
+use Rattle.format.specs.Units.{within, depthWord, isDepth, depthOf, framesIn, checkFramed, active}
 use Rattle.format.specs.Refusals.{number, refuse, _then_, inOrder}
 use Rattle.format.specs.Opening.{checkFields, checkOffsets, badEntry, checkTable, checkFirst, formatOf, checkOpen, headerOf, openOf}
-use Rattle.format.specs.Decoding.{isFloat, checkBlock, checkGroup, coded, channelsOf, woven, active, groupSamples, checkDecode, decodedOf, checkRoom, decodeOf, decodeInto}
+use Rattle.format.specs.Decoding.{isFloat, checkBlock, checkGroup, coded, channelsOf, woven, groupSamples, checkDecode, decodedOf, checkRoom, decodeOf, decodeInto}
 use Rattle.format.specs.Walking.{checkStep, stepSamples, isLeft, checkStepInto, checkWalk, stepOf, nextOf, stepInto}
-use Rattle.format.specs.Encoding.{channel, plain, padded, split, differences, least, width, head0, block, blockOf, blocks, mid, side, midSide, equalParity, parity, takesMid, groupOf, groupIn, groupAt, header, tableOf, assembled, fileOf, checkSpec, checkEncoder, checkSamples, isMidSide, checkStereo, checkSize, checkEncode, checkEncodeInto, encodeOf, encodeInto}
-use Rattle.format.specs.Reencoding.{newValues, valuesFor, baseFor, newBlock, checkNewBlock, activeIn, checkNewGroup, newGroup, checkSame, checkBounds, checkRising, checkTemplate, checkReencoder, checkReencode, checkReencodeInto, refileOf, reencodeOf, reencodeInto}
+use Rattle.format.specs.Encoding.{channel, unwoven, padded, paddedChannels, differences, leastFrom, leastWidth, firstValue, blockBytes, encodedBlock, blocks, mid, side, midSide, equalParity, parity, takesMid, encodedGroup, groupIn, encodedGroupAt, headerBytes, tableOf, assembled, encodedFile, checkSpec, checkEncoder, checkSamples, isMidSide, checkStereo, checkSize, checkEncode, checkEncodeInto, encodeOf, encodeInto}
+use Rattle.format.specs.Reencoding.{newValues, valuesFor, baseFor, reencodedBlock, checkReencodeBlock, activeIn, checkReencodeGroup, reencodedGroup, checkSame, checkBounds, checkRising, checkTemplate, checkReencoder, checkReencode, checkReencodeInto, reencodedFile, reencodeOf, reencodeInto}
 use Rattle.format.specs.Boundary.{samplesFrom, sampleBytes, isMode, modeOf, checkMode, checkBytes, hostOpen, hostDecode, hostDecodeInto, checkHostEncode, hostEncode, hostEncodeInto, checkHostReencode, hostReencode, hostReencodeInto}
 use Rattle.format.specs.declared.refusals.Checked.{Checked}
 use Rattle.format.specs.declared.refusals.Checked.the-variants.{Fine, No}
@@ -26,7 +26,7 @@ use Rattle.format.specs.declared.settings.StereoMode.the-variants.{Auto}
 
 -- every definition of document 01, so that a table unfolds them all by one word
 unfoldable pub document-01 : Unit {0}
-unfolding tab joined from over lastOr pairwise every anyBelow same isIn num digits le numAt signature isSignature fieldsOf groupsOf entry group codes bytes values packing coding widthOf isBeyond rebuilt blockMark isBlock baseOf bitsOf midBit floatBit codingOf sizeOf decoded samplesOf rest floatOf patternOf left right leftRight within depthWord isDepth depthOf framesIn refuse _then_ inOrder checkFields checkOffsets badEntry checkTable checkFirst formatOf checkOpen headerOf openOf isFloat checkBlock checkGroup coded channelsOf woven active groupSamples checkDecode decodedOf checkRoom decodeOf decodeInto checkStep stepSamples isLeft checkStepInto checkWalk stepOf nextOf stepInto channel plain padded split differences least width head0 block blockOf blocks mid side midSide equalParity parity takesMid groupOf groupIn groupAt header tableOf assembled fileOf checkSpec checkEncoder checkSamples isMidSide checkStereo checkSize checkEncode checkEncodeInto encodeOf encodeInto newValues valuesFor baseFor newBlock checkNewBlock activeIn checkNewGroup newGroup checkSame checkBounds checkRising checkTemplate checkReencoder checkReencode checkReencodeInto refileOf reencodeOf reencodeInto samplesFrom sampleBytes isMode modeOf checkMode checkBytes hostOpen hostDecode hostDecodeInto checkHostEncode hostEncode hostEncodeInto checkHostReencode hostReencode hostReencodeInto Ieee.isNan Ieee.ofBits Ieee.toBits Ieee.add Ieee.sub Ieee.sum Ieee.round Ieee.units Ieee.odd Ieee.span Ieee.climb Ieee.size Ieee.neg
+unfolding tab joined from over lastOr pairwise every anyBelow same isIn num digits le numAt signature isSignature fieldsOf groupsOf entry groupBytes codesIn runOf values packing coding widthOf isBeyond rebuilt blockMark isBlock baseOf bitsOf midBit floatBit codingOf sizeOf decoded samplesOf fromBlock floatOf patternOf left right leftRight within depthWord isDepth depthOf framesIn checkFramed refuse _then_ inOrder checkFields checkOffsets badEntry checkTable checkFirst formatOf checkOpen headerOf openOf isFloat checkBlock checkGroup coded channelsOf woven active groupSamples checkDecode decodedOf checkRoom decodeOf decodeInto checkStep stepSamples isLeft checkStepInto checkWalk stepOf nextOf stepInto channel unwoven padded paddedChannels differences leastFrom leastWidth firstValue blockBytes encodedBlock blocks mid side midSide equalParity parity takesMid encodedGroup groupIn encodedGroupAt headerBytes tableOf assembled encodedFile checkSpec checkEncoder checkSamples isMidSide checkStereo checkSize checkEncode checkEncodeInto encodeOf encodeInto newValues valuesFor baseFor reencodedBlock checkReencodeBlock activeIn checkReencodeGroup reencodedGroup checkSame checkBounds checkRising checkTemplate checkReencoder checkReencode checkReencodeInto reencodedFile reencodeOf reencodeInto samplesFrom sampleBytes isMode modeOf checkMode checkBytes hostOpen hostDecode hostDecodeInto checkHostEncode hostEncode hostEncodeInto checkHostReencode hostReencode hostReencodeInto Ieee.isNan Ieee.ofBits Ieee.toBits Ieee.add Ieee.sub Ieee.sum Ieee.round Ieee.units Ieee.odd Ieee.span Ieee.climb Ieee.size Ieee.neg
 document-01 = tt
 
 -- ---- the number that checks give, 0 where nothing is refused
@@ -56,7 +56,7 @@ changed i n N s = take i s ++ (le n N ++ drop (i + n) s)
 
 -- mono, 16 bits, the one sample 5
 abbrev pub five : List ℕ
-five = fileOf (pcm 1 16) Auto (pos 5 ∷ [])
+five = encodedFile (pcm 1 16) Auto (pos 5 ∷ [])
 
 -- what the checks say of a file with none of these faults, with the first, with the first two, and so on
 abbrev pub saidAfter : (List ℕ → Checked) → List (List ℕ → List ℕ) → List ℕ → List ℕ

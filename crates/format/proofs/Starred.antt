@@ -11,7 +11,7 @@ use Rattle.format.specs.Header.{fieldsOf}
 use Rattle.format.specs.Packed.{values, packing, rebuilt}
 use Rattle.format.specs.Blocks.{bitsOf}
 use Rattle.format.specs.Refusals.{number}
-use Rattle.format.specs.Encoding.{padded, split, differences, width, blocks, mid, side, midSide, takesMid, groupOf, fileOf, encodeOf, encodeInto}
+use Rattle.format.specs.Encoding.{padded, paddedChannels, differences, leastWidth, blocks, mid, side, midSide, takesMid, encodedGroup, encodedFile, encodeOf, encodeInto}
 use Rattle.format.specs.declared.refusals.Refusal.the-variants.{ParityDiffers}
 use Rattle.format.specs.declared.settings.StereoMode.the-variants.{Auto, MidSide}
 use Rattle.format.proofs.Made.{document-01, pcm, five}
@@ -45,7 +45,7 @@ in-3 = then-zeros (pos 0 ∷ pos 1 ∷ pos 2 ∷ pos 3 ∷ negsuc 3 ∷ negsuc 2
 
 -- the block of two mono samples at 16 bits
 abbrev two : ℤ → ℤ → List ℕ
-two a b = groupOf (pcm 1 16) Auto (a ∷ b ∷ [])
+two a b = encodedGroup (pcm 1 16) Auto (a ∷ b ∷ [])
 
 -- a stereo frame
 abbrev pair : ℤ → ℤ → List ℤ
@@ -53,11 +53,11 @@ pair l r = l ∷ r ∷ []
 
 pub record Starred : Type 0 where
   -- zero frames, stereo, 16 bits, 44,100
-  pub none-file : fileOf (pcm 2 16) Auto [] ≡ emptyFile
+  pub none-file : encodedFile (pcm 2 16) Auto [] ≡ emptyFile
   pub none-length : encodeOf (pcm 2 16) Auto [] 124 ≡ wrote 124
   pub none-into : encodeInto (pcm 2 16) Auto [] (replicate 126 0xFF) ≡ emptyFile ++ (0xFF ∷ 0xFF ∷ [])
   -- mono 16, one sample 5
-  pub five-width : width (differences (padded (pos 5 ∷ []))) ≡ 2
+  pub five-width : leastWidth (differences (padded (pos 5 ∷ []))) ≡ 2
   pub five-offset : fieldsOf five .start ≡ 128
   pub five-size : fieldsOf five .size ≡ 144
   pub five-length : encodeOf (pcm 1 16) Auto (pos 5 ∷ []) 272 ≡ wrote 272
@@ -86,8 +86,8 @@ pub record Starred : Type 0 where
   pub step-raw : bitsOf (two (pos 0) (pos 16384)) ≡ negsuc 15
   pub step-raw-length : length (two (pos 0) (pos 16384)) ≡ 1040
   -- pair (5, 5) under Auto
-  pub tie-direct : length (blocks 16 0 (split 2 (pair (pos 5) (pos 5)))) ≡ 288
-  pub tie-both : length (blocks 16 1 (midSide (split 2 (pair (pos 5) (pos 5))))) ≡ 288
+  pub tie-direct : length (blocks 16 0 (paddedChannels 2 (pair (pos 5) (pos 5)))) ≡ 288
+  pub tie-both : length (blocks 16 1 (midSide (paddedChannels 2 (pair (pos 5) (pos 5))))) ≡ 288
   pub tie : takesMid Auto 2 16 (pair (pos 5) (pos 5)) ≡ false
 
 pub starred : Starred

@@ -1,15 +1,16 @@
 -- Laws of depths and of the two counts.
-use Prim.Native.Nat.{ℕ, _-_, _*_, _/_, _%_, _^_, _≤_, _<_}
+use Prim.Native.Nat.{ℕ, zero, suc, _-_, _*_, _/_, _%_, _^_, _≤_, _<_}
 use mathlib.Core.Path.{_≡_, refl, sym, ap, _∙_}
 use mathlib.Core.Bool.{Bool, true, false, not, _&&_, cond}
 use native.Mathlib.Nat.{mul-le-mul-left, mul-lt-mul-of-pos-right, lt-of-le-of-lt, le-of-lt}
 use native.Mathlib.Omega.{arith}
-use lib.IntN.{ℤ, pos, negsuc}
+use lib.IntN.{ℤ, pos, negsuc, negℤ}
+use lib.Signed.{mag, leZ}
 use lib.Dec.{eqb, ltb, leb}
 use lib.Pow.{pow-pos}
 use borrow.Author.Tests.{eq-eqb, ne-eqb, lt-ltb, le-ltb, le-leb, lt-leb, ltb-true, ltb-false, eqb-true}
 use Rattle.format.specs.Numbers.{holds}
-use Rattle.format.specs.Units.{bitsIn, bytesIn, within, depthWord, isKnown, orWidest, isDepth, depthOf, framesIn, framedAs}
+use Rattle.format.specs.Units.{bitsIn, bytesIn, within, depthWord, isKnown, orWidest, isDepth, depthOf, framesIn, framedAs, checkFramed, Framing}
 use Rattle.format.specs.Refusals.{refuse, _then_}
 use Rattle.format.specs.declared.refusals.Refusal.the-variants.{IncompleteFrame, TooManyFrames}
 use Rattle.format.specs.declared.units.Framed.{Framed}
@@ -64,11 +65,19 @@ and-true : (b : Bool) → (b && true) ≡ b
 and-true true = refl
 and-true false = refl
 
+-- from − H to H − 1
+range-is : (H : ℕ) (z : ℤ) → 0 < H → (leZ (negℤ (pos H)) z && leZ z (pos (H - 1))) ≡ ltb (mag z) H
+range-is zero z p = absurd (omega arith)
+range-is (suc h) (pos n) p = leb-below n (suc h) p
+range-is (suc h) (negsuc n) p = and-true (leb n h) ∙ ap (leb n) (top h) ∙ leb-below n (suc h) p
+  where
+    top : (h : ℕ) → h ≡ suc h - 1
+    top h = omega arith
+
 -- a depth's own range is what its bits hold
 pub within-holds : (d : Depth) (z : ℤ) → within d z ≡ holds (bitsIn d) z
 unfolding within
-within-holds d (pos n) = leb-below n (2 ^ (bitsIn d - 1)) (pow-pos (bitsIn d - 1))
-within-holds d (negsuc n) = and-true (leb n (2 ^ (bitsIn d - 1) - 1)) ∙ leb-below n (2 ^ (bitsIn d - 1)) (pow-pos (bitsIn d - 1))
+within-holds d z = range-is (2 ^ (bitsIn d - 1)) z (pow-pos (bitsIn d - 1))
 
 -- 512 samples at the depth: by its bytes, and by its bits
 pub depth-bytes : (d : Depth) → 512 * bytesIn d ≡ 64 * bitsIn d
@@ -101,17 +110,19 @@ module _ (s : Samples) (channels : ℕ) where
       unfolding framesIn
       whole-frames h = rw (ne-eqb channels 0 some, eq-eqb (s .0 % channels) 0 even, le-ltb 4294967295 (s .0 / channels) h)
 
--- the frames of samples are refused by 31 and 33, as the writers' checks say it
-pub frames-refused : (s : Samples) (channels : ℕ) → 1 ≤ channels
-    → framedAs (framesIn s channels) ≡ (refuse (not (eqb (s .0 % channels) 0)) IncompleteFrame then refuse (ltb 4294967295 (s .0 / channels)) TooManyFrames)
-unfolding framesIn refuse _then_
-frames-refused s channels some = ap (λ (b : Bool). framedAs (cond b Incomplete (cond (eqb (s .0 % channels) 0) counted Incomplete))) (ne-eqb channels 0 (λ e. omega arith)) ∙ by (eqb (s .0 % channels) 0) (ltb 4294967295 (s .0 / channels))
+-- the frames of samples are refused by 31 and 33 as checks say it
+pub frames-refused : (s : Samples) (channels : ℕ) → framedAs (framesIn s channels) ≡ checkFramed s channels
+unfolding framesIn checkFramed refuse _then_
+frames-refused s channels = by (eqb channels 0) (eqb (s .0 % channels) 0) (ltb 4294967295 (s .0 / channels))
   where
-    counted : Framed
-    counted = cond (ltb 4294967295 (s .0 / channels)) TooMany (Whole (record { 0 = s .0 / channels }))
+    by : (none whole many : Bool)
+        → framedAs (cond none Incomplete (cond whole (cond many TooMany (Whole (record { 0 = s .0 / channels }))) Incomplete))
+        ≡ (refuse none IncompleteFrame then refuse (not whole) IncompleteFrame then refuse many TooManyFrames)
+    by true whole many = refl
+    by false true true = refl
+    by false true false = refl
+    by false false many = refl
 
-    by : (a b : Bool)
-        → framedAs (cond a (cond b TooMany (Whole (record { 0 = s .0 / channels }))) Incomplete) ≡ (refuse (not a) IncompleteFrame then refuse b TooManyFrames)
-    by true true = refl
-    by true false = refl
-    by false b = refl
+-- a count of frames that is framed so, is refused so
+pub framing : (s : Samples) (channels : ℕ) (f : Framed) → f ≡ framesIn s channels → Framing s channels f
+framing s channels f e = (e, ap framedAs e ∙ frames-refused s channels)

@@ -9,12 +9,14 @@ use Rattle.format.specs.declared.answers.Outcome.{Outcome}
 use Rattle.format.specs.declared.answers.Outcome.the-variants.{Read, Wrote, Refused}
 use Rattle.format.specs.declared.answers.Answer.{Answer}
 
+-- ------------------------------------------------------------------------------------------------------------------
+
 -- a refusal returns its number; success what was found, or the length written
 abbrev pub answeredBy : Outcome → Answer
-answeredBy o = record { outcome = o }
+answeredBy outcome = record { outcome = outcome }
 
 abbrev pub refusedBy : Refusal → Answer
-refusedBy r = answeredBy (Refused r)
+refusedBy refusal = answeredBy (Refused refusal)
 
 -- n samples were read; n bytes were written
 abbrev pub read : ℕ → Answer
@@ -24,10 +26,10 @@ abbrev pub wrote : ℕ → Answer
 wrote n = answeredBy (Wrote n)
 
 abbrev pub answered : Checked → Outcome → Answer
-answered Fine o = answeredBy o
-answered (No r) o = refusedBy r
+answered Fine outcome = answeredBy outcome
+answered (No refusal) outcome = refusedBy refusal
 
 -- a refusal changes no lent byte or sample; after success what lies after the written stays
 abbrev pub filled : {A : Type 0} → Checked → List A → List A → List A
-filled Fine w before = over w before
-filled (No r) w before = before
+filled Fine written before = over written before
+filled (No refusal) written before = before

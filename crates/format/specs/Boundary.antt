@@ -12,8 +12,8 @@ use Rattle.format.specs.Refusals.{number, refuse, _then_}
 use Rattle.format.specs.Answers.{answered, filled}
 use Rattle.format.specs.Opening.{openOf}
 use Rattle.format.specs.Decoding.{checkDecode, decodedOf, checkRoom, decodeOf}
-use Rattle.format.specs.Encoding.{fileOf, checkEncodeInto}
-use Rattle.format.specs.Reencoding.{refileOf, checkReencodeInto}
+use Rattle.format.specs.Encoding.{encodedFile, checkEncodeInto}
+use Rattle.format.specs.Reencoding.{reencodedFile, checkReencodeInto}
 use Rattle.format.specs.declared.refusals.Refusal.the-variants.{UnknownMode, SampleBytes}
 use Rattle.format.specs.declared.refusals.Checked.{Checked}
 use Rattle.format.specs.declared.settings.PcmSpec.{PcmSpec}
@@ -22,65 +22,78 @@ use Rattle.format.specs.declared.settings.StereoMode.the-variants.{Auto,
 use Rattle.format.specs.declared.answers.Outcome.{Outcome}
 use Rattle.format.specs.declared.answers.Outcome.the-variants.{Opened, Read, Finished, Wrote, Refused}
 
--- samples as 4 little-endian bytes
+-- ------------------------------------------------------------------------------------------------------------------
+
+-- samples as 4 little-endian bytes; 1 to 3 bytes after the last whole sample are no sample
 unfoldable pub samplesFrom : List ℕ → List ℤ
-samplesFrom b = tab (length b / 4) (λ k. value 32 (numAt (4 * k) 4 b))
+samplesFrom bytes = tab (length bytes / 4) (λ i. value 32 (numAt (4 * i) 4 bytes))
 
 unfoldable pub sampleBytes : List ℤ → List ℕ
-sampleBytes s = joined (λ k. le 4 (codeOf 32 (getD s k (pos 0)))) (length s)
+sampleBytes samples = joined (λ i. le 4 (codeOf 32 (getD samples i (pos 0)))) (length samples)
 
--- modes 0 Auto, 1 Direct, 2 MidSide
+-- modes 0 Auto, 1 Direct, 2 MidSide; a mode's number is its word
 unfoldable pub isMode : ℕ → Bool
-isMode m = ltb m 3
+isMode word = ltb word 3
 
 unfoldable pub modeOf : ℕ → StereoMode
-modeOf m = cond (eqb m 0) Auto (cond (eqb m 1) Direct MidSide)
+modeOf word = cond (eqb word 0) Auto (cond (eqb word 1) Direct MidSide)
 
--- 38, 39
 unfoldable pub checkMode : ℕ → Checked
-checkMode m = refuse (not (isMode m)) UnknownMode
+checkMode word = refuse (not (isMode word)) UnknownMode  -- 38
 
 unfoldable pub checkBytes : List ℕ → Checked
-checkBytes b = refuse (not (eqb (length b % 4) 0)) SampleBytes
+checkBytes bytes = refuse (not (eqb (length bytes % 4) 0)) SampleBytes  -- 39
 
 -- the length in bytes (for opening, what decoding would write), or 2 ^ 63 plus the refusal number
 abbrev pub result : Outcome → ℕ
-result (Opened h) = 4 * samplesIn (h .frames) (h .channels) .0
-result (Read n) = 4 * n .0
-result (Wrote n) = n
-result (Refused r) = 2 ^ 63 + number r
+result (Opened header) = 4 * samplesIn (header .frames) (header .channels) .0
+result (Read samples) = 4 * samples .0
+result (Wrote size) = size
+result (Refused refusal) = 2 ^ 63 + number refusal
 result Finished = 0
 
 -- ---- opening, decoding
 
 unfoldable pub hostOpen : List ℕ → ℕ
-hostOpen s = result (openOf s .outcome)
+hostOpen file = result (openOf file .outcome)
 
 -- for samples coming out room is counted in bytes: as many samples as fit
 unfoldable pub hostDecode : List ℕ → ℕ → ℕ
-hostDecode s room = result (decodeOf s (room / 4) .outcome)
+hostDecode file room = result (decodeOf file (room / 4) .outcome)
 
 unfoldable pub hostDecodeInto : List ℕ → List ℕ → List ℕ
-hostDecodeInto s out = filled (checkDecode s then checkRoom s (length out / 4)) (sampleBytes (decodedOf s)) out
+hostDecodeInto file lent =
+    filled (checkDecode file then checkRoom file (length lent / 4)) (sampleBytes (decodedOf file)) lent
 
 -- ---- encoding: 38 then 39 before all other checks
 
 unfoldable pub checkHostEncode : List ℕ → PcmSpec → ℕ → ℕ → Checked
-checkHostEncode b p m room = checkMode m then checkBytes b then checkEncodeInto p (modeOf m) (samplesFrom b) room
+checkHostEncode bytes spec word room =
+    checkMode word  -- 38
+    then checkBytes bytes  -- 39
+    then checkEncodeInto spec (modeOf word) (samplesFrom bytes) room
 
 unfoldable pub hostEncode : List ℕ → PcmSpec → ℕ → ℕ → ℕ
-hostEncode b p m room = result (answered (checkHostEncode b p m room) (Wrote (length (fileOf p (modeOf m) (samplesFrom b)))) .outcome)
+hostEncode bytes spec word room =
+    let file = encodedFile spec (modeOf word) (samplesFrom bytes) in
+    result (answered (checkHostEncode bytes spec word room) (Wrote (length file)) .outcome)
 
 unfoldable pub hostEncodeInto : List ℕ → PcmSpec → ℕ → List ℕ → List ℕ
-hostEncodeInto b p m out = filled (checkHostEncode b p m (length out)) (fileOf p (modeOf m) (samplesFrom b)) out
+hostEncodeInto bytes spec word lent =
+    let file = encodedFile spec (modeOf word) (samplesFrom bytes) in
+    filled (checkHostEncode bytes spec word (length lent)) file lent
 
 -- ---- re-encoding: 39 before all other checks
 
 unfoldable pub checkHostReencode : List ℕ → PcmSpec → List ℕ → ℕ → Checked
-checkHostReencode b p t room = checkBytes b then checkReencodeInto p (samplesFrom b) t room
+checkHostReencode bytes spec template room =
+    checkBytes bytes  -- 39
+    then checkReencodeInto spec (samplesFrom bytes) template room
 
 unfoldable pub hostReencode : List ℕ → PcmSpec → List ℕ → ℕ → ℕ
-hostReencode b p t room = result (answered (checkHostReencode b p t room) (Wrote (length t)) .outcome)
+hostReencode bytes spec template room =
+    result (answered (checkHostReencode bytes spec template room) (Wrote (length template)) .outcome)
 
 unfoldable pub hostReencodeInto : List ℕ → PcmSpec → List ℕ → List ℕ → List ℕ
-hostReencodeInto b p t out = filled (checkHostReencode b p t (length out)) (refileOf (samplesFrom b) t) out
+hostReencodeInto bytes spec template lent =
+    filled (checkHostReencode bytes spec template (length lent)) (reencodedFile (samplesFrom bytes) template) lent

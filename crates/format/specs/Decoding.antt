@@ -1,20 +1,22 @@
 -- Document 01, "Order of checks": decoding.
-use Prim.Native.Nat.{ℕ, _-_, _*_, min}
+use Prim.Native.Nat.{ℕ}
 use mathlib.Core.List.{List, map}
 use mathlib.Core.Bool.{Bool, true, false, not, _&&_, cond}
 use lib.ListN.{length, getD}
 use lib.IntN.{ℤ, pos}
 use lib.Dec.{ltb, eqb}
 use Rattle.format.specs.Lists.{tab, joined}
-use Rattle.format.specs.Header.{fieldsOf, groupsOf, group}
+use Rattle.format.specs.Header.{fieldsOf, groupsOf, groupBytes}
 use Rattle.format.specs.Packed.{isBeyond}
-use Rattle.format.specs.Blocks.{isBlock, bitsOf, midBit, floatBit, codingOf, sizeOf, samplesOf, rest}
+use Rattle.format.specs.Blocks.{isBlock, bitsOf, midBit, floatBit, codingOf, sizeOf, samplesOf, fromBlock}
 use Rattle.format.specs.MidSide.{leftRight}
-use Rattle.format.specs.Units.{samplesIn}
+use Rattle.format.specs.Units.{samplesIn, active}
 use Rattle.format.specs.Refusals.{refuse, _then_, inOrder}
 use Rattle.format.specs.Answers.{answered, filled}
 use Rattle.format.specs.Opening.{formatOf, checkOpen}
-use Rattle.format.specs.declared.refusals.Refusal.the-variants.{TooShort, BlockSignature, BitsWord, FloatDiffers, MidSideChannels, BytesLeft, OutputTooShort}
+use Rattle.format.specs.declared.refusals.Refusal.the-variants.{TooShort, BlockSignature, BitsWord}
+use Rattle.format.specs.declared.refusals.Refusal.the-variants.{FloatDiffers, MidSideChannels}
+use Rattle.format.specs.declared.refusals.Refusal.the-variants.{BytesLeft, OutputTooShort}
 use Rattle.format.specs.declared.refusals.Checked.{Checked}
 use Rattle.format.specs.declared.settings.SampleFormat.{SampleFormat}
 use Rattle.format.specs.declared.settings.SampleFormat.the-variants.{Pcm, Float}
@@ -23,70 +25,72 @@ use Rattle.format.specs.declared.answers.Fields.{Fields}
 use Rattle.format.specs.declared.answers.Outcome.the-variants.{Read}
 use Rattle.format.specs.declared.answers.Answer.{Answer}
 
+-- ------------------------------------------------------------------------------------------------------------------
+
 unfoldable pub isFloat : SampleFormat → Bool
 isFloat Pcm = false
 isFloat Float = true
 
--- ---- a group: bs are its bytes, f is the file's format
+-- ---- a group's bytes, in a file of that format
 
--- channel c, whose block r begins with: 1 (header), 3, 20, on the first channel 21, then 4, 1 (values)
+-- channel c's block; 21 on the first channel; the first 1 is the header's, the second the values'
 unfoldable pub checkBlock : Fields → SampleFormat → ℕ → List ℕ → Checked
-checkBlock h f c r =
-    refuse (ltb (length r) 16) TooShort
-    then refuse (not (isBlock r)) BlockSignature
-    then refuse (cond (isFloat f) (not (floatBit r)) (floatBit r)) FloatDiffers
-    then refuse (eqb c 0 && (midBit r && not (eqb (h .channels) 2))) MidSideChannels
-    then refuse (isBeyond (codingOf (h .depth) r)) (BitsWord (bitsOf r))
-    then refuse (ltb (length r) (sizeOf (h .depth) r)) TooShort
+checkBlock fields format c block =
+    refuse (ltb (length block) 16) TooShort  -- 1
+    then refuse (not (isBlock block)) BlockSignature  -- 3
+    then refuse (cond (isFloat format) (not (floatBit block)) (floatBit block)) FloatDiffers  -- 20
+    then refuse (eqb c 0 && (midBit block && not (eqb (fields .channels) 2))) MidSideChannels  -- 21
+    then refuse (isBeyond (codingOf (fields .depth) block)) (BitsWord (bitsOf block))  -- 4
+    then refuse (ltb (length block) (sizeOf (fields .depth) block)) TooShort  -- 1
 
 -- each channel in order; after the channels 22
 unfoldable pub checkGroup : Fields → SampleFormat → List ℕ → Checked
-checkGroup h f bs =
-    inOrder (λ c. checkBlock h f c (rest (h .depth) bs c)) (h .channels)
-    then refuse (not (eqb (length (rest (h .depth) bs (h .channels))) 0)) BytesLeft
+checkGroup fields format group =
+    inOrder (λ c. checkBlock fields format c (fromBlock (fields .depth) group c)) (fields .channels)
+    then refuse (not (eqb (length (fromBlock (fields .depth) group (fields .channels))) 0)) BytesLeft  -- 22
 
--- the n channels as they are coded
+-- the channels as they are coded
 unfoldable pub coded : ℕ → ℕ → List ℕ → List (List ℤ)
-coded depth n bs = tab n (λ c. samplesOf depth (rest depth bs c))
+coded depth channels group = tab channels (λ c. samplesOf depth (fromBlock depth group c))
 
 -- only the first channel's bit 0 decides
 unfoldable pub channelsOf : Fields → SampleFormat → List ℕ → List (List ℤ)
-channelsOf h f bs = let chans = coded (h .depth) (h .channels) bs in cond (midBit bs) (leftRight f chans) chans
+channelsOf fields format group =
+    let chans = coded (fields .depth) (fields .channels) group in
+    cond (midBit group) (leftRight format chans) chans
 
 -- the first n frames of the channels, interleaved
 unfoldable pub woven : ℕ → List (List ℤ) → List ℤ
-woven n chans = joined (λ i. map (λ (ch : List ℤ). getD ch i (pos 0)) chans) n
-
--- how many frames of group g are active
-unfoldable pub active : ℕ → ℕ → ℕ
-active frames g = min 512 (frames - 512 * g)
+woven n chans = joined (λ i. map (λ (xs : List ℤ). getD xs i (pos 0)) chans) n
 
 unfoldable pub groupSamples : Fields → SampleFormat → ℕ → List ℕ → List ℤ
-groupSamples h f g bs = woven (active (h .frames) g) (channelsOf h f bs)
+groupSamples fields format g group = woven (active (fields .frames) g) (channelsOf fields format group)
 
 -- ---- the whole file
 
 -- opens afresh, then each group in order
 unfoldable pub checkDecode : List ℕ → Checked
-checkDecode s =
-    let h = fieldsOf s in
-    checkOpen s
-    then inOrder (λ g. checkGroup h (formatOf s h) (group s h g)) (groupsOf (h .frames))
+checkDecode file =
+    let fields = fieldsOf file in
+    checkOpen file
+    then inOrder (λ g. checkGroup fields (formatOf file fields) (groupBytes file fields g)) (groupsOf (fields .frames))
 
 unfoldable pub decodedOf : List ℕ → List ℤ
-decodedOf s = let h = fieldsOf s in joined (λ g. groupSamples h (formatOf s h) g (group s h g)) (groupsOf (h .frames))
+decodedOf file =
+    let fields = fieldsOf file in
+    joined (λ g. groupSamples fields (formatOf file fields) g (groupBytes file fields g)) (groupsOf (fields .frames))
 
 -- how many samples that is: frames × channels
 abbrev pub decodedCount : List ℕ → Samples
-decodedCount s = let h = fieldsOf s in samplesIn (record { 0 = h .frames }) (h .channels)
+decodedCount file = let fields = fieldsOf file in samplesIn (fields .frames) (fields .channels)
 
--- then 50, against that
+-- against that
 unfoldable pub checkRoom : List ℕ → ℕ → Checked
-checkRoom s room = refuse (ltb room (decodedCount s .0)) OutputTooShort
+checkRoom file room = refuse (ltb room (decodedCount file .0)) OutputTooShort  -- 50
 
 -- the answer, and what the lent samples then hold
 unfoldable pub decodeOf : List ℕ → ℕ → Answer
-decodeOf s room = answered (checkDecode s then checkRoom s room) (Read (decodedCount s))
+decodeOf file room = answered (checkDecode file then checkRoom file room) (Read (decodedCount file))
 
 unfoldable pub decodeInto : List ℕ → List ℤ → List ℤ
-decodeInto s out = filled (checkDecode s then checkRoom s (length out)) (decodedOf s) out
+decodeInto file lent = filled (checkDecode file then checkRoom file (length lent)) (decodedOf file) lent

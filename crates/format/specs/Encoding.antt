@@ -3,7 +3,7 @@ use Prim.Native.Nat.{ℕ, zero, suc, _+_, _-_, _*_, _/_, _%_}
 use mathlib.Core.List.{List, [], _∷_, _++_}
 use mathlib.Core.Bool.{Bool, true, false, not, _&&_, cond}
 use lib.ListN.{length, getD, replicate}
-use lib.IntN.{ℤ, pos, negsuc, natAbs, _+ℤ_, _-ℤ_}
+use lib.IntN.{ℤ, pos, negℤ, natAbs, _+ℤ_, _-ℤ_}
 use lib.Signed.{quotZ}
 use lib.Dec.{ltb, eqb}
 use Rattle.format.specs.Lists.{from, tab, joined, lastOr, pairwise, every, anyBelow, isIn}
@@ -11,33 +11,44 @@ use Rattle.format.specs.Numbers.{le, codeOf, holds, minus}
 use Rattle.format.specs.Header.{signature, groupsOf}
 use Rattle.format.specs.Packed.{packing}
 use Rattle.format.specs.Blocks.{blockMark}
-use Rattle.format.specs.Units.{depthOf, within}
+use Rattle.format.specs.Units.{depthOf, within, checkFrameCount}
 use Rattle.format.specs.Refusals.{refuse, _then_}
 use Rattle.format.specs.Answers.{answered, filled}
-use Rattle.format.specs.declared.refusals.Refusal.the-variants.{WriterSpec, IncompleteFrame, ValueOutside, TooManyFrames, NotStereo, ParityDiffers, DataTooLarge, OutputTooShort}
+use Rattle.format.specs.declared.refusals.Refusal.the-variants.{WriterSpec, IncompleteFrame, ValueOutside}
+use Rattle.format.specs.declared.refusals.Refusal.the-variants.{NotStereo, ParityDiffers}
+use Rattle.format.specs.declared.refusals.Refusal.the-variants.{DataTooLarge, OutputTooShort}
 use Rattle.format.specs.declared.refusals.Checked.{Checked}
+use Rattle.format.specs.declared.units.Frames.{Frames}
 use Rattle.format.specs.declared.settings.PcmSpec.{PcmSpec}
 use Rattle.format.specs.declared.settings.StereoMode.{StereoMode}
 use Rattle.format.specs.declared.settings.StereoMode.the-variants.{Auto, Direct, MidSide}
 use Rattle.format.specs.declared.answers.Outcome.the-variants.{Wrote}
 use Rattle.format.specs.declared.answers.Answer.{Answer}
 
--- ---- the channels of interleaved samples s
+-- ------------------------------------------------------------------------------------------------------------------
 
+-- ---- the channels of interleaved samples
+
+-- how many frames they are
+abbrev pub framesOf : PcmSpec → List ℤ → Frames
+framesOf spec samples = record { 0 = length samples / spec .channels }
+
+-- channel c: its sample of each frame
 unfoldable pub channel : ℕ → List ℤ → ℕ → List ℤ
-channel n s c = tab (length s / n) (λ i. getD s (i * n + c) (pos 0))
+channel channels samples c = tab (length samples / channels) (λ i. getD samples (i * channels + c) (pos 0))
 
-unfoldable pub plain : ℕ → List ℤ → List (List ℤ)
-plain n s = tab n (channel n s)
+-- all of them, as they are
+unfoldable pub unwoven : ℕ → List ℤ → List (List ℤ)
+unwoven channels samples = tab channels (channel channels samples)
 
 -- each channel is padded to 512 by its last sample
 unfoldable pub padded : List ℤ → List ℤ
 padded xs = xs ++ replicate (512 - length xs) (lastOr (pos 0) xs)
 
-unfoldable pub split : ℕ → List ℤ → List (List ℤ)
-split n s = tab n (λ c. padded (channel n s c))
+unfoldable pub paddedChannels : ℕ → List ℤ → List (List ℤ)
+paddedChannels channels samples = tab channels (λ c. padded (channel channels samples c))
 
--- ---- a block of 512 samples
+-- ---- a block of the 512 samples xs of a channel
 
 -- their differences, with 0 as the last
 unfoldable pub differences : List ℤ → List ℤ
@@ -45,147 +56,178 @@ differences [] = []
 differences (x ∷ []) = pos 0 ∷ []
 differences (x ∷ y ∷ xs) = minus y x ∷ differences (y ∷ xs)
 
--- the least width from b, at most b + n, that holds all of ds
-unfoldable pub least : ℕ → ℕ → List ℤ → ℕ
-least zero b ds = b
-least (suc n) b ds = let more = least n (b + 1) ds in cond (every (holds b) ds) b more
+-- the least width, from that one on and at most n more, that holds all numbers
+unfoldable pub leastFrom : ℕ → ℕ → List ℤ → ℕ
+leastFrom zero width xs = width
+leastFrom (suc n) width xs = let more = leastFrom n (width + 1) xs in cond (every (holds width) xs) width more
 
 -- from 2 to 32
-unfoldable pub width : List ℤ → ℕ
-width ds = least 30 2 ds
+unfoldable pub leastWidth : List ℤ → ℕ
+leastWidth xs = leastFrom 30 2 xs
 
 -- the block's first value
-unfoldable pub head0 : List ℤ → ℤ
-head0 [] = pos 0
-head0 (x ∷ xs) = x
+unfoldable pub firstValue : List ℤ → ℤ
+firstValue [] = pos 0
+firstValue (x ∷ xs) = x
 
--- padding 0
-unfoldable pub block : ℤ → ℤ → ℕ → List ℕ → List ℕ
-block base bits flags run = blockMark ++ (le 4 (codeOf 32 base) ++ (le 2 (codeOf 16 bits) ++ (le 2 flags ++ (le 4 0 ++ run))))
+-- a block's bytes; padding 0
+unfoldable pub blockBytes : ℤ → ℤ → ℕ → List ℕ → List ℕ
+blockBytes base bits flags run =
+    blockMark ++ (le 4 (codeOf 32 base) ++ (le 2 (codeOf 16 bits) ++ (le 2 flags ++ (le 4 0 ++ run))))
 
--- a width under the depth gives differences at it; otherwise raw, bits = −depth; base is the first value, in raw blocks too
-unfoldable pub blockOf : ℕ → ℕ → List ℤ → List ℕ
-blockOf depth flags xs =
-    let ds = differences xs in
-    let b = width ds in
-    let small = block (head0 xs) (pos b) flags (packing b ds) in
-    let raw = block (head0 xs) (negsuc (depth - 1)) flags (packing depth xs) in
-    cond (ltb b depth) small raw
+-- a width under the depth gives differences at it; otherwise raw, bits = −depth;
+-- base is the block's first value, in raw blocks too
+unfoldable pub encodedBlock : ℕ → ℕ → List ℤ → List ℕ
+encodedBlock depth flags xs =
+    let width = leastWidth (differences xs) in
+    let small = blockBytes (firstValue xs) (pos width) flags (packing width (differences xs)) in
+    let raw = blockBytes (firstValue xs) (negℤ (pos depth)) flags (packing depth xs) in
+    cond (ltb width depth) small raw
 
 -- one block per channel
 unfoldable pub blocks : ℕ → ℕ → List (List ℤ) → List ℕ
-blocks depth flags chans = joined (λ c. blockOf depth flags (getD chans c [])) (length chans)
+blocks depth flags chans = joined (λ c. encodedBlock depth flags (getD chans c [])) (length chans)
 
 -- ---- mid and side
 
--- mid = (l + r)/2, side = (l − r)/2
+-- mid = (l + r)/2
 unfoldable pub mid : ℤ → ℤ → ℤ
-mid l r = quotZ (l +ℤ r) (pos 2)
+mid left right = quotZ (left +ℤ right) (pos 2)
 
+-- side = (l − r)/2
 unfoldable pub side : ℤ → ℤ → ℤ
-side l r = quotZ (l -ℤ r) (pos 2)
+side left right = quotZ (left -ℤ right) (pos 2)
 
+-- two channels of left and right as mid and side
 unfoldable pub midSide : List (List ℤ) → List (List ℤ)
-midSide chans = pairwise mid (getD chans 0 []) (getD chans 1 []) ∷ pairwise side (getD chans 0 []) (getD chans 1 []) ∷ []
+midSide chans =
+    pairwise mid (getD chans 0 []) (getD chans 1 [])
+    ∷ pairwise side (getD chans 0 []) (getD chans 1 [])
+    ∷ []
 
 -- only where every frame has equal parity
 unfoldable pub equalParity : ℤ → ℤ → Bool
-equalParity l r = eqb (natAbs l % 2) (natAbs r % 2)
+equalParity left right = eqb (natAbs left % 2) (natAbs right % 2)
 
 unfoldable pub parity : List (List ℤ) → Bool
-parity chans = every (λ (b : Bool). b) (pairwise equalParity (getD chans 0 []) (getD chans 1 []))
+parity chans = every (λ (equal : Bool). equal) (pairwise equalParity (getD chans 0 []) (getD chans 1 []))
 
--- ---- a group
+-- ---- a group, of the samples of its frames
 
 -- Direct; MidSide in every group, whatever its size; Auto per group where representable and strictly smaller
 unfoldable pub takesMid : StereoMode → ℕ → ℕ → List ℤ → Bool
-takesMid Direct n depth s = false
-takesMid MidSide n depth s = true
-takesMid Auto n depth s = eqb n 2 && (parity (plain n s) && ltb (length (blocks depth 1 (midSide (split n s)))) (length (blocks depth 0 (split n s))))
+takesMid Direct channels depth samples = false
+takesMid MidSide channels depth samples = true
+takesMid Auto channels depth samples =
+    let chans = paddedChannels channels samples in
+    eqb channels 2
+    && (parity (unwoven channels samples)
+    && ltb (length (blocks depth 1 (midSide chans))) (length (blocks depth 0 chans)))
 
 -- both blocks then have flags 1; direct has flags 0
-unfoldable pub groupOf : PcmSpec → StereoMode → List ℤ → List ℕ
-groupOf p mode s =
-    let depth = p .«bits_per_sample» in
-    let chans = split (p .channels) s in
+unfoldable pub encodedGroup : PcmSpec → StereoMode → List ℤ → List ℕ
+encodedGroup spec mode samples =
+    let depth = spec .«bits_per_sample» in
+    let chans = paddedChannels (spec .channels) samples in
     let both = blocks depth 1 (midSide chans) in
     let direct = blocks depth 0 chans in
-    cond (takesMid mode (p .channels) depth s) both direct
+    cond (takesMid mode (spec .channels) depth samples) both direct
 
--- group g's samples
+-- the samples of group g's frames
 unfoldable pub groupIn : ℕ → List ℤ → ℕ → List ℤ
-groupIn n s g = from (512 * n * g) (512 * n) s
+groupIn channels samples g = from (512 * channels * g) (512 * channels) samples
 
-unfoldable pub groupAt : PcmSpec → StereoMode → List ℤ → ℕ → List ℕ
-groupAt p mode s g = groupOf p mode (groupIn (p .channels) s g)
+unfoldable pub encodedGroupAt : PcmSpec → StereoMode → List ℤ → ℕ → List ℕ
+encodedGroupAt spec mode samples g = encodedGroup spec mode (groupIn (spec .channels) samples g)
 
 -- ---- the file
 
 -- encoding writes zeros to bytes 32 to 119; the table follows byte 120
-unfoldable pub header : PcmSpec → ℕ → ℕ → ℕ → List ℕ
-header p frames start size =
+unfoldable pub headerBytes : PcmSpec → Frames → ℕ → ℕ → List ℕ
+headerBytes spec frames start size =
     signature 0x31
-    ++ (le 2 (p .channels) ++ (le 2 (p .«bits_per_sample») ++ (le 4 (p .«sample_rate») ++ (le 4 frames ++ (le 4 120 ++ (le 4 start ++ (le 4 size ++ replicate 88 0)))))))
+    ++ (le 2 (spec .channels)
+    ++ (le 2 (spec .«bits_per_sample»)
+    ++ (le 4 (spec .«sample_rate»)
+    ++ (le 4 (frames .0)
+    ++ (le 4 120
+    ++ (le 4 start
+    ++ (le 4 size
+    ++ replicate 88 0)))))))
 
--- groups + 1 entries of 4 bytes, relative to the data offset; the last equals the data size
+-- of so many groups' bytes: groups + 1 entries of 4 bytes, relative to the data offset; the last equals the data size
 unfoldable pub tableOf : (ℕ → List ℕ) → ℕ → List ℕ
-tableOf part n = joined (λ g. le 4 (length (joined part g))) (n + 1)
+tableOf part groups = joined (λ g. le 4 (length (joined part g))) (groups + 1)
 
 -- the data follow the table, and nothing follows the data
-unfoldable pub assembled : PcmSpec → ℕ → (ℕ → List ℕ) → List ℕ
-assembled p frames part =
-    let n = groupsOf frames in
-    header p frames (120 + 4 * (n + 1)) (length (joined part n)) ++ (tableOf part n ++ joined part n)
+unfoldable pub assembled : PcmSpec → Frames → (ℕ → List ℕ) → List ℕ
+assembled spec frames part =
+    let groups = groupsOf frames in
+    headerBytes spec frames (120 + 4 * (groups + 1)) (length (joined part groups))
+    ++ (tableOf part groups ++ joined part groups)
 
-unfoldable pub fileOf : PcmSpec → StereoMode → List ℤ → List ℕ
-fileOf p mode s = assembled p (length s / p .channels) (groupAt p mode s)
+unfoldable pub encodedFile : PcmSpec → StereoMode → List ℤ → List ℕ
+encodedFile spec mode samples = assembled spec (framesOf spec samples) (encodedGroupAt spec mode samples)
 
--- ---- the checks: 30, 31, 32, 33, 34 (MidSide, not stereo), 35 (MidSide), 37, 50
+-- ---- the checks: 30, 31, 32, 33, 34, 35, 37, 50
 
--- 30, of a writer that takes 1 to `most` channels and these depths
+-- of a writer that takes 1 to `most` channels and these depths
 unfoldable pub checkSpec : ℕ → List ℕ → PcmSpec → Checked
-checkSpec most depths p =
-    refuse (eqb (p .channels) 0) WriterSpec
-    then refuse (ltb most (p .channels)) WriterSpec
-    then refuse (not (isIn (p .«bits_per_sample») depths)) WriterSpec
-    then refuse (eqb (p .«sample_rate») 0) WriterSpec
+checkSpec most depths spec =
+    refuse (eqb (spec .channels) 0) WriterSpec  -- 30
+    then refuse (ltb most (spec .channels)) WriterSpec  -- 30
+    then refuse (not (isIn (spec .«bits_per_sample») depths)) WriterSpec  -- 30
+    then refuse (eqb (spec .«sample_rate») 0) WriterSpec  -- 30
 
 -- channels 1 or 2, depth 16 or 24
 unfoldable pub checkEncoder : PcmSpec → Checked
-checkEncoder p = checkSpec 2 (16 ∷ 24 ∷ []) p
+checkEncoder spec = checkSpec 2 (16 ∷ 24 ∷ []) spec
 
--- 31 to 33
 unfoldable pub checkSamples : PcmSpec → List ℤ → Checked
-checkSamples p s =
-    refuse (not (eqb (length s % p .channels) 0)) IncompleteFrame
-    then refuse (not (every (within (depthOf (p .«bits_per_sample»))) s)) ValueOutside
-    then refuse (ltb 4294967295 (length s / p .channels)) TooManyFrames
+checkSamples spec samples =
+    refuse (not (eqb (length samples % spec .channels) 0)) IncompleteFrame  -- 31
+    then refuse (not (every (within (depthOf (spec .«bits_per_sample»))) samples)) ValueOutside  -- 32
+    then checkFrameCount (framesOf spec samples .0)  -- 33
 
 unfoldable pub isMidSide : StereoMode → Bool
 isMidSide MidSide = true
 isMidSide Auto = false
 isMidSide Direct = false
 
--- 34, 35
+-- 34 (MidSide, not stereo), 35 (MidSide: in some group a frame's samples differ in parity)
 unfoldable pub checkStereo : PcmSpec → StereoMode → List ℤ → Checked
-checkStereo p mode s =
-    let n = groupsOf (length s / p .channels) in
-    refuse (isMidSide mode && not (eqb (p .channels) 2)) NotStereo
-    then refuse (isMidSide mode && anyBelow (λ g. not (parity (plain (p .channels) (groupIn (p .channels) s g)))) n) ParityDiffers
+checkStereo spec mode samples =
+    let channels = spec .channels in
+    let differs : ℕ → Bool = λ g. not (parity (unwoven channels (groupIn channels samples g))) in
+    refuse (isMidSide mode && not (eqb channels 2)) NotStereo  -- 34
+    then refuse (isMidSide mode && anyBelow differs (groupsOf (framesOf spec samples))) ParityDiffers  -- 35
 
--- 37: the data size over 32 bits
+-- the data size over 32 bits
+abbrev pub checkDataSize : ℕ → Checked
+checkDataSize size = refuse (ltb 4294967295 size) DataTooLarge  -- 37
+
 unfoldable pub checkSize : PcmSpec → StereoMode → List ℤ → Checked
-checkSize p mode s = refuse (ltb 4294967295 (length (joined (groupAt p mode s) (groupsOf (length s / p .channels))))) DataTooLarge
+checkSize spec mode samples =
+    let groups = groupsOf (framesOf spec samples) in
+    checkDataSize (length (joined (encodedGroupAt spec mode samples) groups))  -- 37
 
 unfoldable pub checkEncode : PcmSpec → StereoMode → List ℤ → Checked
-checkEncode p mode s = checkEncoder p then checkSamples p s then checkStereo p mode s then checkSize p mode s
+checkEncode spec mode samples =
+    checkEncoder spec  -- 30
+    then checkSamples spec samples  -- 31 to 33
+    then checkStereo spec mode samples  -- 34, 35
+    then checkSize spec mode samples  -- 37
 
 unfoldable pub checkEncodeInto : PcmSpec → StereoMode → List ℤ → ℕ → Checked
-checkEncodeInto p mode s room = checkEncode p mode s then refuse (ltb room (length (fileOf p mode s))) OutputTooShort
+checkEncodeInto spec mode samples room =
+    checkEncode spec mode samples
+    then refuse (ltb room (length (encodedFile spec mode samples))) OutputTooShort  -- 50
 
 -- the answer, and what the lent bytes then hold
 unfoldable pub encodeOf : PcmSpec → StereoMode → List ℤ → ℕ → Answer
-encodeOf p mode s room = answered (checkEncodeInto p mode s room) (Wrote (length (fileOf p mode s)))
+encodeOf spec mode samples room =
+    answered (checkEncodeInto spec mode samples room) (Wrote (length (encodedFile spec mode samples)))
 
 unfoldable pub encodeInto : PcmSpec → StereoMode → List ℤ → List ℕ → List ℕ
-encodeInto p mode s out = filled (checkEncodeInto p mode s (length out)) (fileOf p mode s) out
+encodeInto spec mode samples lent =
+    filled (checkEncodeInto spec mode samples (length lent)) (encodedFile spec mode samples) lent

@@ -5,6 +5,8 @@ use mathlib.Core.Bool.{Bool, true, false, _&&_, _||_}
 use lib.ListN.{length, take, drop}
 use lib.Dec.{eqb}
 
+-- ------------------------------------------------------------------------------------------------------------------
+
 module _ {A : Type 0} where
   -- f 0, f 1, .. f (n - 1)
   unfoldable pub tab : ℕ → (ℕ → A) → List A
@@ -18,7 +20,7 @@ module _ {A : Type 0} where
 
   -- the n elements from i on
   unfoldable pub from : ℕ → ℕ → List A → List A
-  from i n s = take n (drop i s)
+  from i n xs = take n (drop i xs)
 
   -- what lent memory holds after a call: what was written, and then what lay after it
   unfoldable pub over : List A → List A → List A
@@ -35,15 +37,15 @@ module _ {A : Type 0} where
   pairwise f (x ∷ xs) [] = []
   pairwise f (x ∷ xs) (y ∷ ys) = f x y ∷ pairwise f xs ys
 
-  -- every element has p
+  -- every element passes the test
   unfoldable pub every : (A → Bool) → List A → Bool
-  every p [] = true
-  every p (x ∷ xs) = p x && every p xs
+  every test [] = true
+  every test (x ∷ xs) = test x && every test xs
 
--- some k below n has p
+-- some k below n passes the test
 unfoldable pub anyBelow : (ℕ → Bool) → ℕ → Bool
-anyBelow p zero = false
-anyBelow p (suc n) = anyBelow p n || p n
+anyBelow test zero = false
+anyBelow test (suc n) = anyBelow test n || test n
 
 -- the two lists are equal
 unfoldable pub same : List ℕ → List ℕ → Bool

@@ -11,6 +11,8 @@ use Rattle.format.specs.Numbers.{value, codeOf, plus, minus}
 use Rattle.format.specs.declared.settings.SampleFormat.{SampleFormat}
 use Rattle.format.specs.declared.settings.SampleFormat.the-variants.{Pcm, Float}
 
+-- ------------------------------------------------------------------------------------------------------------------
+
 -- the 32 bits are f32
 unfoldable pub floatOf : ℤ → Ieee.Float
 floatOf z = Ieee.ofBits binary32 (codeOf 32 z)
@@ -19,15 +21,19 @@ floatOf z = Ieee.ofBits binary32 (codeOf 32 z)
 unfoldable pub patternOf : Ieee.Float → ℕ
 patternOf x = cond (Ieee.isNan x) 0x7FC0_0000 (Ieee.toBits binary32 x)
 
--- left = mid + side, right = mid − side
+-- left = mid + side; for float files the same sum, rounded once
 unfoldable pub left : SampleFormat → ℤ → ℤ → ℤ
-left Pcm m s = plus m s
-left Float m s = value 32 (patternOf (Ieee.add binary32 (floatOf m) (floatOf s)))
+left Pcm mid side = plus mid side
+left Float mid side = value 32 (patternOf (Ieee.add binary32 (floatOf mid) (floatOf side)))
 
+-- right = mid − side
 unfoldable pub right : SampleFormat → ℤ → ℤ → ℤ
-right Pcm m s = minus m s
-right Float m s = value 32 (patternOf (Ieee.sub binary32 (floatOf m) (floatOf s)))
+right Pcm mid side = minus mid side
+right Float mid side = value 32 (patternOf (Ieee.sub binary32 (floatOf mid) (floatOf side)))
 
 -- two channels of mid and side as left and right
 unfoldable pub leftRight : SampleFormat → List (List ℤ) → List (List ℤ)
-leftRight f chans = pairwise (left f) (getD chans 0 []) (getD chans 1 []) ∷ pairwise (right f) (getD chans 0 []) (getD chans 1 []) ∷ []
+leftRight format chans =
+    pairwise (left format) (getD chans 0 []) (getD chans 1 [])
+    ∷ pairwise (right format) (getD chans 0 []) (getD chans 1 [])
+    ∷ []

@@ -10,7 +10,11 @@ use Rattle.format.specs.Blocks.{isBlock, floatBit}
 use Rattle.format.specs.Units.{isDepth, depthOf}
 use Rattle.format.specs.Refusals.{refuse, _then_}
 use Rattle.format.specs.Answers.{answered}
-use Rattle.format.specs.declared.refusals.Refusal.the-variants.{TooShort, FileSignature, BlockSignature, ZeroChannels, DepthUnknown, ZeroRate, TableOffset, DataOffset, TableLength, LastEntry, DataWithoutFrames, FirstEntry, EntryBounds}
+use Rattle.format.specs.declared.refusals.Refusal.the-variants.{TooShort, FileSignature, BlockSignature}
+use Rattle.format.specs.declared.refusals.Refusal.the-variants.{ZeroChannels, DepthUnknown, ZeroRate}
+use Rattle.format.specs.declared.refusals.Refusal.the-variants.{TableOffset, DataOffset, TableLength}
+use Rattle.format.specs.declared.refusals.Refusal.the-variants.{LastEntry, DataWithoutFrames}
+use Rattle.format.specs.declared.refusals.Refusal.the-variants.{FirstEntry, EntryBounds}
 use Rattle.format.specs.declared.refusals.Checked.{Checked}
 use Rattle.format.specs.declared.settings.SampleFormat.{SampleFormat}
 use Rattle.format.specs.declared.settings.SampleFormat.the-variants.{Pcm, Float}
@@ -19,73 +23,76 @@ use Rattle.format.specs.declared.answers.Header.{Header}
 use Rattle.format.specs.declared.answers.Outcome.the-variants.{Opened}
 use Rattle.format.specs.declared.answers.Answer.{Answer}
 
--- 10 to 12
+-- ------------------------------------------------------------------------------------------------------------------
+
 unfoldable pub checkFields : Fields → Checked
-checkFields h =
-    refuse (eqb (h .channels) 0) ZeroChannels
-    then refuse (not (isDepth (h .depth))) DepthUnknown
-    then refuse (eqb (h .rate) 0) ZeroRate
+checkFields fields =
+    refuse (eqb (fields .channels) 0) ZeroChannels  -- 10
+    then refuse (not (isDepth (fields .depth))) DepthUnknown  -- 11
+    then refuse (eqb (fields .rate) 0) ZeroRate  -- 12
 
--- 13 to 15, then 1: the data offset and size past the end of the n bytes
+-- of a file of so many bytes; the last is 1: the data offset and size past its end
 unfoldable pub checkOffsets : Fields → ℕ → Checked
-checkOffsets h n =
-    refuse (ltb (h .table) 120) TableOffset
-    then refuse (ltb (h .start) (h .table)) DataOffset
-    then refuse (not (eqb (h .start - h .table) (4 * (groupsOf (h .frames) + 1)))) TableLength
-    then refuse (ltb n (h .start + h .size)) TooShort
+checkOffsets fields size =
+    refuse (ltb (fields .table) 120) TableOffset  -- 13
+    then refuse (ltb (fields .start) (fields .table)) DataOffset  -- 14
+    then refuse (not (eqb (fields .start - fields .table) (4 * (groupsOf (fields .frames) + 1)))) TableLength  -- 15
+    then refuse (ltb size (fields .start + fields .size)) TooShort  -- 1
 
--- group k's end is past the data size, before its start, or under 80 × channels after it
+-- group g's end is past the data size, before its start, or under 80 × channels after it
 unfoldable pub badEntry : List ℕ → Fields → ℕ → Bool
-badEntry s h k =
-    ltb (h .size) (entry s h (k + 1))
-    || (ltb (entry s h (k + 1)) (entry s h k)
-    || ltb (entry s h (k + 1) - entry s h k) (80 * h .channels))
+badEntry file fields g =
+    ltb (fields .size) (entry file fields (g + 1))
+    || (ltb (entry file fields (g + 1)) (entry file fields g)
+    || ltb (entry file fields (g + 1) - entry file fields g) (80 * fields .channels))
 
--- 16, 17 or 18, 19 over groups in order
+-- 17 without groups, 18 with; 19 over groups in order
 unfoldable pub checkTable : List ℕ → Fields → Checked
-checkTable s h =
-    let g = groupsOf (h .frames) in
-    refuse (not (eqb (entry s h g) (h .size))) LastEntry
-    then refuse (eqb g 0 && not (eqb (h .size) 0)) DataWithoutFrames
-    then refuse (not (eqb g 0) && not (eqb (entry s h 0) 0)) FirstEntry
-    then refuse (anyBelow (badEntry s h) g) EntryBounds
+checkTable file fields =
+    let groups = groupsOf (fields .frames) in
+    refuse (not (eqb (entry file fields groups) (fields .size))) LastEntry  -- 16
+    then refuse (eqb groups 0 && not (eqb (fields .size) 0)) DataWithoutFrames  -- 17
+    then refuse (not (eqb groups 0) && not (eqb (entry file fields 0) 0)) FirstEntry  -- 18
+    then refuse (anyBelow (badEntry file fields) groups) EntryBounds  -- 19
 
--- 3 on the first block, where there is a group
+-- on the first block, where there is a group
 unfoldable pub checkFirst : List ℕ → Fields → Checked
-checkFirst s h = refuse (not (eqb (groupsOf (h .frames)) 0) && not (isBlock (drop (h .start) s))) BlockSignature
+checkFirst file fields =
+    refuse (not (eqb (groupsOf (fields .frames)) 0) && not (isBlock (drop (fields .start) file))) BlockSignature  -- 3
 
 -- whose flags give the file's format; without groups PCM
 unfoldable pub formatOf : List ℕ → Fields → SampleFormat
-formatOf s h = cond (not (eqb (groupsOf (h .frames)) 0) && floatBit (drop (h .start) s)) Float Pcm
+formatOf file fields =
+    cond (not (eqb (groupsOf (fields .frames)) 0) && floatBit (drop (fields .start) file)) Float Pcm
 
 -- 1 (under 120 bytes), 2, 10 to 15, 1, 16, 17 or 18, 19, 3
 unfoldable pub checkOpen : List ℕ → Checked
-checkOpen s =
-    let h = fieldsOf s in
-    refuse (ltb (length s) 120) TooShort
-    then refuse (not (isSignature s)) FileSignature
-    then checkFields h
-    then checkOffsets h (length s)
-    then checkTable s h
-    then checkFirst s h
+checkOpen file =
+    let fields = fieldsOf file in
+    refuse (ltb (length file) 120) TooShort  -- 1
+    then refuse (not (isSignature file)) FileSignature  -- 2
+    then checkFields fields  -- 10 to 12
+    then checkOffsets fields (length file)  -- 13 to 15, 1
+    then checkTable file fields  -- 16 to 19
+    then checkFirst file fields  -- 3
 
 -- opening returns the header's numbers, the group count and the format
 abbrev pub headerFor : Fields → SampleFormat → Header
-headerFor h f =
+headerFor fields format =
     record {
-      channels = h .channels;
-      depth = depthOf (h .depth);
-      rate = h .rate;
-      frames = record { 0 = h .frames };
-      table = h .table;
-      start = h .start;
-      size = h .size;
-      groups = groupsOf (h .frames);
-      format = f;
+      channels = fields .channels;
+      depth = depthOf (fields .depth);
+      rate = fields .rate;
+      frames = fields .frames;
+      table = fields .table;
+      start = fields .start;
+      size = fields .size;
+      groups = groupsOf (fields .frames);
+      format = format;
     }
 
 unfoldable pub headerOf : List ℕ → Header
-headerOf s = let h = fieldsOf s in headerFor h (formatOf s h)
+headerOf file = let fields = fieldsOf file in headerFor fields (formatOf file fields)
 
 unfoldable pub openOf : List ℕ → Answer
-openOf s = answered (checkOpen s) (Opened (headerOf s))
+openOf file = answered (checkOpen file) (Opened (headerOf file))

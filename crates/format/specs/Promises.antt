@@ -1,4 +1,5 @@
--- Document 01, "What the promises are held to": what each public function promises of its answer r and of what it leaves in lent memory.
+-- Document 01, "What the promises are held to": what each public function promises of its answer and of what it leaves
+-- in lent memory. `lent` is what it is lent, `after` what that then holds.
 use Prim.Native.Nat.{ℕ}
 use mathlib.Core.Path.{_≡_}
 use mathlib.Core.List.{List}
@@ -9,45 +10,52 @@ use Rattle.format.specs.Decoding.{decodeOf, decodeInto}
 use Rattle.format.specs.Walking.{stepOf, nextOf, stepInto}
 use Rattle.format.specs.Encoding.{encodeOf, encodeInto}
 use Rattle.format.specs.Reencoding.{reencodeOf, reencodeInto}
-use Rattle.format.specs.Boundary.{hostOpen, hostDecode, hostDecodeInto, hostEncode, hostEncodeInto, hostReencode, hostReencodeInto}
+use Rattle.format.specs.Boundary.{hostOpen, hostDecode, hostDecodeInto, hostEncode, hostEncodeInto}
+use Rattle.format.specs.Boundary.{hostReencode, hostReencodeInto}
 use Rattle.format.specs.declared.settings.PcmSpec.{PcmSpec}
 use Rattle.format.specs.declared.settings.StereoMode.{StereoMode}
 use Rattle.format.specs.declared.answers.Answer.{Answer}
 
--- opening the file s answers r
-abbrev pub Opens : List ℕ → Answer → Type 0
-Opens s r = r ≡ openOf s
+-- ------------------------------------------------------------------------------------------------------------------
 
--- decoding the file s into `lent` answers r and leaves `after` there
+-- opening the file
+abbrev pub Opens : List ℕ → Answer → Type 0
+Opens file answer = answer ≡ openOf file
+
+-- decoding the file
 abbrev pub Decodes : List ℕ → List ℤ → Answer → List ℤ → Type 0
-Decodes s lent r after = (r ≡ decodeOf s (length lent)) × (after ≡ decodeInto s lent)
+Decodes file lent answer after = (answer ≡ decodeOf file (length lent)) × (after ≡ decodeInto file lent)
 
 -- group g of it alone
 abbrev pub Steps : List ℕ → ℕ → List ℤ → Answer → List ℤ → Type 0
-Steps s g lent r after = (r ≡ stepOf s g (length lent)) × (after ≡ stepInto s g lent)
+Steps file g lent answer after = (answer ≡ stepOf file g (length lent)) × (after ≡ stepInto file g lent)
 
 -- a step of a walk that stands at group g, which leaves it at `next`
 abbrev pub Advances : List ℕ → ℕ → List ℤ → Answer → List ℤ → ℕ → Type 0
-Advances s g lent r after next = Steps s g lent r after × (next ≡ nextOf s g (length lent))
+Advances file g lent answer after next = Steps file g lent answer after × (next ≡ nextOf file g (length lent))
 
--- encoding the samples s with the settings p
+-- encoding the samples with the settings
 abbrev pub Encodes : PcmSpec → StereoMode → List ℤ → List ℕ → Answer → List ℕ → Type 0
-Encodes p mode s lent r after = (r ≡ encodeOf p mode s (length lent)) × (after ≡ encodeInto p mode s lent)
+Encodes spec mode samples lent answer after =
+    (answer ≡ encodeOf spec mode samples (length lent)) × (after ≡ encodeInto spec mode samples lent)
 
--- re-encoding them with the template t
+-- re-encoding them with the template
 abbrev pub Reencodes : PcmSpec → List ℤ → List ℕ → List ℕ → Answer → List ℕ → Type 0
-Reencodes p s t lent r after = (r ≡ reencodeOf p s t (length lent)) × (after ≡ reencodeInto p s t lent)
+Reencodes spec samples template lent answer after =
+    (answer ≡ reencodeOf spec samples template (length lent)) × (after ≡ reencodeInto spec samples template lent)
 
--- ---- the host boundary: r is a number, and samples are bytes b
+-- ---- the host boundary: the answer is a number, samples are bytes, and a mode is its word
 
 abbrev pub HostOpens : List ℕ → ℕ → Type 0
-HostOpens s r = r ≡ hostOpen s
+HostOpens file answer = answer ≡ hostOpen file
 
 abbrev pub HostDecodes : List ℕ → List ℕ → ℕ → List ℕ → Type 0
-HostDecodes s lent r after = (r ≡ hostDecode s (length lent)) × (after ≡ hostDecodeInto s lent)
+HostDecodes file lent answer after = (answer ≡ hostDecode file (length lent)) × (after ≡ hostDecodeInto file lent)
 
 abbrev pub HostEncodes : List ℕ → PcmSpec → ℕ → List ℕ → ℕ → List ℕ → Type 0
-HostEncodes b p mode lent r after = (r ≡ hostEncode b p mode (length lent)) × (after ≡ hostEncodeInto b p mode lent)
+HostEncodes bytes spec word lent answer after =
+    (answer ≡ hostEncode bytes spec word (length lent)) × (after ≡ hostEncodeInto bytes spec word lent)
 
 abbrev pub HostReencodes : List ℕ → PcmSpec → List ℕ → List ℕ → ℕ → List ℕ → Type 0
-HostReencodes b p t lent r after = (r ≡ hostReencode b p t (length lent)) × (after ≡ hostReencodeInto b p t lent)
+HostReencodes bytes spec template lent answer after =
+    (answer ≡ hostReencode bytes spec template (length lent)) × (after ≡ hostReencodeInto bytes spec template lent)

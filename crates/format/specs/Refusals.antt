@@ -2,16 +2,29 @@
 use Prim.Native.Nat.{ℕ, zero, suc}
 use mathlib.Core.Bool.{Bool, true, false}
 use Rattle.format.specs.declared.refusals.Refusal.{Refusal}
-use Rattle.format.specs.declared.refusals.Refusal.the-variants.{TooShort, FileSignature, BlockSignature, BitsWord, ZeroChannels, DepthUnknown, ZeroRate, TableOffset, DataOffset, TableLength, LastEntry, DataWithoutFrames, FirstEntry, EntryBounds, FloatDiffers, MidSideChannels, BytesLeft, WriterSpec, IncompleteFrame, ValueOutside, TooManyFrames, NotStereo, ParityDiffers, WidthTooSmall, DataTooLarge, UnknownMode, SampleBytes, TemplateDiffers, TemplateBounds, TemplateOffsets, ShortGroup, TemplateBits, TemplateFlags, TemplateBytesLeft, OutputTooShort}
+use Rattle.format.specs.declared.refusals.Refusal.the-variants.{TooShort, FileSignature, BlockSignature}
+use Rattle.format.specs.declared.refusals.Refusal.the-variants.{BitsWord, ZeroChannels, DepthUnknown, ZeroRate}
+use Rattle.format.specs.declared.refusals.Refusal.the-variants.{TableOffset, DataOffset, TableLength, LastEntry}
+use Rattle.format.specs.declared.refusals.Refusal.the-variants.{DataWithoutFrames, FirstEntry, EntryBounds}
+use Rattle.format.specs.declared.refusals.Refusal.the-variants.{FloatDiffers, MidSideChannels, BytesLeft}
+use Rattle.format.specs.declared.refusals.Refusal.the-variants.{WriterSpec, IncompleteFrame, ValueOutside}
+use Rattle.format.specs.declared.refusals.Refusal.the-variants.{TooManyFrames, NotStereo, ParityDiffers}
+use Rattle.format.specs.declared.refusals.Refusal.the-variants.{WidthTooSmall, DataTooLarge, UnknownMode}
+use Rattle.format.specs.declared.refusals.Refusal.the-variants.{SampleBytes, TemplateDiffers, TemplateBounds}
+use Rattle.format.specs.declared.refusals.Refusal.the-variants.{TemplateOffsets, ShortGroup, TemplateBits}
+use Rattle.format.specs.declared.refusals.Refusal.the-variants.{TemplateFlags, TemplateBytesLeft}
+use Rattle.format.specs.declared.refusals.Refusal.the-variants.{OutputTooShort}
 use Rattle.format.specs.declared.refusals.Checked.{Checked}
 use Rattle.format.specs.declared.refusals.Checked.the-variants.{Fine, No}
+
+-- ------------------------------------------------------------------------------------------------------------------
 
 -- the number of each; 4 returns the bits word too
 abbrev pub number : Refusal → ℕ
 number TooShort = 1
 number FileSignature = 2
 number BlockSignature = 3
-number (BitsWord b) = 4
+number (BitsWord bits) = 4
 number ZeroChannels = 10
 number DepthUnknown = 11
 number ZeroRate = 12
@@ -46,14 +59,14 @@ number OutputTooShort = 50
 
 -- a check: refused where the test holds
 unfoldable pub refuse : Bool → Refusal → Checked
-refuse true r = No r
-refuse false r = Fine
+refuse true refusal = No refusal
+refuse false refusal = Fine
 
 infixr 20 _then_
 -- one check after another: the first refusal counts
 unfoldable pub _then_ : Checked → Checked → Checked
-Fine then k = k
-(No r) then k = No r
+Fine then next = next
+(No refusal) then next = No refusal
 
 -- check 0, check 1, .. check (n - 1), in order
 unfoldable pub inOrder : (ℕ → Checked) → ℕ → Checked

@@ -1,9 +1,11 @@
 -- Document 01, "The units".
-use Prim.Native.Nat.{ℕ, _-_, _*_, _/_, _%_, _^_}
-use mathlib.Core.Bool.{Bool, true, false, _&&_, cond}
-use lib.IntN.{ℤ, pos, negsuc}
+use Prim.Native.Nat.{ℕ, _-_, _*_, _/_, _%_, _^_, min}
+use mathlib.Core.Path.{_≡_}
+use mathlib.Core.Bool.{Bool, true, false, not, _&&_, cond}
+use lib.IntN.{ℤ, pos, negℤ}
 use lib.Signed.{leZ}
 use lib.Dec.{ltb, eqb}
+use Rattle.format.specs.Refusals.{refuse, _then_}
 use Rattle.format.specs.declared.refusals.Checked.{Checked}
 use Rattle.format.specs.declared.refusals.Checked.the-variants.{Fine, No}
 use Rattle.format.specs.declared.refusals.Refusal.the-variants.{IncompleteFrame, TooManyFrames}
@@ -16,6 +18,8 @@ use Rattle.format.specs.declared.units.Samples.{Samples}
 use Rattle.format.specs.declared.units.Framed.{Framed}
 use Rattle.format.specs.declared.units.Framed.the-variants.{Whole, Incomplete, TooMany}
 
+-- ------------------------------------------------------------------------------------------------------------------
+
 -- ---- a sample depth carries its own range and byte count
 
 abbrev pub bitsIn : Depth → ℕ
@@ -25,50 +29,78 @@ bitsIn TwentyFour = 24
 bitsIn ThirtyTwo = 32
 
 abbrev pub bytesIn : Depth → ℕ
-bytesIn d = bitsIn d / 8
+bytesIn depth = bitsIn depth / 8
 
 -- from − 2 ^ (bits − 1) to 2 ^ (bits − 1) − 1
 abbrev pub lowest : Depth → ℤ
-lowest d = negsuc (2 ^ (bitsIn d - 1) - 1)
+lowest depth = negℤ (pos (2 ^ (bitsIn depth - 1)))
 
 abbrev pub highest : Depth → ℤ
-highest d = pos (2 ^ (bitsIn d - 1) - 1)
+highest depth = pos (2 ^ (bitsIn depth - 1) - 1)
 
 unfoldable pub within : Depth → ℤ → Bool
-within d z = leZ (lowest d) z && leZ z (highest d)
+within depth z = leZ (lowest depth) z && leZ z (highest depth)
 
 -- depth 8, 16, 24, 32
 unfoldable pub depthWord : ℕ → DepthWord
-depthWord b = cond (eqb b 8) (Known Eight) (cond (eqb b 16) (Known Sixteen) (cond (eqb b 24) (Known TwentyFour) (cond (eqb b 32) (Known ThirtyTwo) Unknown)))
+depthWord bits =
+    cond (eqb bits 8) (Known Eight)
+    (cond (eqb bits 16) (Known Sixteen)
+    (cond (eqb bits 24) (Known TwentyFour)
+    (cond (eqb bits 32) (Known ThirtyTwo) Unknown)))
 
+-- whether a depth word names a depth; one that names none is refused by 11 (Opening)
 abbrev pub isKnown : DepthWord → Bool
-isKnown (Known d) = true
+isKnown (Known depth) = true
 isKnown Unknown = false
 
+-- the depth that it names; where it names none, 0 among them, the widest
 abbrev pub orWidest : DepthWord → Depth
-orWidest (Known d) = d
+orWidest (Known depth) = depth
 orWidest Unknown = ThirtyTwo
 
 unfoldable pub isDepth : ℕ → Bool
-isDepth b = isKnown (depthWord b)
+isDepth bits = isKnown (depthWord bits)
 
 unfoldable pub depthOf : ℕ → Depth
-depthOf b = orWidest (depthWord b)
+depthOf bits = orWidest (depthWord bits)
 
--- ---- samples are frames times channels
+-- ---- frames and samples
+
+-- how many frames of group g, of 512 at most, are active
+unfoldable pub active : Frames → ℕ → ℕ
+active frames g = min 512 (frames .0 - 512 * g)
+
+-- samples are frames times channels
 
 abbrev pub samplesIn : Frames → ℕ → Samples
-samplesIn f channels = record { 0 = f .0 * channels }
+samplesIn frames channels = record { 0 = frames .0 * channels }
+
+-- over 4,294,967,295 frames
+abbrev pub checkFrameCount : ℕ → Checked
+checkFrameCount frames = refuse (ltb 4294967295 frames) TooManyFrames  -- 33
 
 -- and back: no frames without a channel, only whole ones, and at most 4,294,967,295
 unfoldable pub framesIn : Samples → ℕ → Framed
-framesIn s channels =
-    let n = s .0 / channels in
+framesIn samples channels =
+    let n = samples .0 / channels in
     let counted = cond (ltb 4294967295 n) TooMany (Whole (record { 0 = n })) in
-    cond (eqb channels 0) Incomplete (cond (eqb (s .0 % channels) 0) counted Incomplete)
+    cond (eqb channels 0) Incomplete (cond (eqb (samples .0 % channels) 0) counted Incomplete)
 
--- what is no whole number of frames is refused by these
+-- what is no whole number of frames is refused by its number
 abbrev pub framedAs : Framed → Checked
-framedAs (Whole f) = Fine
-framedAs Incomplete = No IncompleteFrame
-framedAs TooMany = No TooManyFrames
+framedAs (Whole frames) = Fine
+framedAs Incomplete = No IncompleteFrame  -- 31
+framedAs TooMany = No TooManyFrames  -- 33
+
+-- the same, by checks: 31 without a channel, or where a frame is not whole; then 33
+unfoldable pub checkFramed : Samples → ℕ → Checked
+checkFramed samples channels =
+    refuse (eqb channels 0) IncompleteFrame  -- 31
+    then refuse (not (eqb (samples .0 % channels) 0)) IncompleteFrame  -- 31
+    then checkFrameCount (samples .0 / channels)  -- 33
+
+-- what is promised of so many samples in frames: how many they are, and by what they are refused
+abbrev pub Framing : Samples → ℕ → Framed → Type 0
+Framing samples channels framed =
+    (framed ≡ framesIn samples channels) × (framedAs framed ≡ checkFramed samples channels)

@@ -1,16 +1,16 @@
--- Document 01, "Order of checks": the walk over the file s, which holds the next group's number g.
+-- Document 01, "Order of checks": the walk over a file. It holds the next group's number g.
 use Prim.Native.Nat.{ℕ, _+_}
 use mathlib.Core.List.{List, []}
 use mathlib.Core.Bool.{Bool, cond}
 use lib.ListN.{length}
 use lib.IntN.{ℤ}
 use lib.Dec.{ltb}
-use Rattle.format.specs.Header.{fieldsOf, groupsOf, group}
-use Rattle.format.specs.Units.{samplesIn}
+use Rattle.format.specs.Header.{fieldsOf, groupsOf, groupBytes}
+use Rattle.format.specs.Units.{samplesIn, active}
 use Rattle.format.specs.Refusals.{refuse, _then_}
 use Rattle.format.specs.Answers.{answered, filled}
 use Rattle.format.specs.Opening.{formatOf, checkOpen}
-use Rattle.format.specs.Decoding.{checkGroup, active, groupSamples}
+use Rattle.format.specs.Decoding.{checkGroup, groupSamples}
 use Rattle.format.specs.declared.refusals.Refusal.the-variants.{OutputTooShort}
 use Rattle.format.specs.declared.refusals.Checked.{Checked}
 use Rattle.format.specs.declared.refusals.Checked.the-variants.{Fine}
@@ -19,43 +19,56 @@ use Rattle.format.specs.declared.answers.Outcome.{Outcome}
 use Rattle.format.specs.declared.answers.Outcome.the-variants.{Opened, Read, Finished, Wrote, Refused}
 use Rattle.format.specs.declared.answers.Answer.{Answer}
 
+-- ------------------------------------------------------------------------------------------------------------------
+
 -- one group's interleaved samples by the same checks, and how many they are
 unfoldable pub checkStep : List ℕ → ℕ → Checked
-checkStep s g = let h = fieldsOf s in checkGroup h (formatOf s h) (group s h g)
+checkStep file g = let fields = fieldsOf file in checkGroup fields (formatOf file fields) (groupBytes file fields g)
 
 unfoldable pub stepSamples : List ℕ → ℕ → List ℤ
-stepSamples s g = let h = fieldsOf s in groupSamples h (formatOf s h) g (group s h g)
+stepSamples file g =
+    let fields = fieldsOf file in
+    groupSamples fields (formatOf file fields) g (groupBytes file fields g)
 
 abbrev pub stepCount : List ℕ → ℕ → Samples
-stepCount s g = let h = fieldsOf s in samplesIn (record { 0 = active (h .frames) g }) (h .channels)
+stepCount file g =
+    let fields = fieldsOf file in
+    samplesIn (record { 0 = active (fields .frames) g }) (fields .channels)
 
 -- a group is left
 unfoldable pub isLeft : List ℕ → ℕ → Bool
-isLeft s g = ltb g (groupsOf (fieldsOf s .frames))
+isLeft file g = ltb g (groupsOf (fieldsOf file .frames))
 
 -- with 50 after 22
 unfoldable pub checkStepInto : List ℕ → ℕ → ℕ → Checked
-checkStepInto s g room = checkStep s g then refuse (ltb room (stepCount s g .0)) OutputTooShort
+checkStepInto file g room =
+    checkStep file g
+    then refuse (ltb room (stepCount file g .0)) OutputTooShort  -- 50
 
 -- a step on bytes that don't open refuses as opening does
 unfoldable pub checkWalk : List ℕ → ℕ → ℕ → Checked
-checkWalk s g room = let checks = checkStepInto s g room in checkOpen s then cond (isLeft s g) checks Fine
+checkWalk file g room =
+    let checks = checkStepInto file g room in
+    checkOpen file
+    then cond (isLeft file g) checks Fine
 
 -- a step after the last group says done
 unfoldable pub stepOf : List ℕ → ℕ → ℕ → Answer
-stepOf s g room = answered (checkWalk s g room) (cond (isLeft s g) (Read (stepCount s g)) Finished)
+stepOf file g room = answered (checkWalk file g room) (cond (isLeft file g) (Read (stepCount file g)) Finished)
 
 -- a refused step doesn't advance: how many groups a step goes past that answers so
 abbrev pub groupsPassed : Outcome → ℕ
-groupsPassed (Read n) = 1
+groupsPassed (Read samples) = 1
 groupsPassed Finished = 0
-groupsPassed (Refused r) = 0
-groupsPassed (Opened h) = 0
-groupsPassed (Wrote n) = 0
+groupsPassed (Refused refusal) = 0
+groupsPassed (Opened header) = 0
+groupsPassed (Wrote size) = 0
 
 unfoldable pub nextOf : List ℕ → ℕ → ℕ → ℕ
-nextOf s g room = g + groupsPassed (stepOf s g room .outcome)
+nextOf file g room = g + groupsPassed (stepOf file g room .outcome)
 
 -- what the lent samples then hold
 unfoldable pub stepInto : List ℕ → ℕ → List ℤ → List ℤ
-stepInto s g out = let samples = stepSamples s g in filled (checkWalk s g (length out)) (cond (isLeft s g) samples []) out
+stepInto file g lent =
+    let samples = stepSamples file g in
+    filled (checkWalk file g (length lent)) (cond (isLeft file g) samples []) lent

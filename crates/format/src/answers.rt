@@ -12,7 +12,7 @@ pub struct Fields {
     pub channels: u16,
     pub depth: u16,
     pub rate: u32,
-    pub frames: u32,
+    pub frames: Frames,
     pub table: u32,
     pub start: u32,
     pub size: u32,

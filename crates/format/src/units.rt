@@ -1,6 +1,9 @@
 // Document 01, "The units".
 ghost use mathlib.Core.Path.{_≡_};
-ghost use Rattle.format.specs.Units.{depthWord, depthOf, bitsIn, bytesIn, lowest, highest, samplesIn, framesIn};
+ghost use Prim.Native.Nat.{_≤_};
+ghost use Rattle.format.specs.Header.{groupsOf};
+ghost use Rattle.format.specs.Units.{depthWord, depthOf, bitsIn, bytesIn, lowest, highest};
+ghost use Rattle.format.specs.Units.{samplesIn, Framing, active};
 
 // A sample depth: its range, its bytes, and the sizes that no depth changes.
 pub enum Depth {
@@ -35,7 +38,7 @@ impl Depth {
         }
     }
 
-    // The depth that a word names; where it names none, the widest.
+    // The depth that a word names; where it names none, 0 among them, the widest. Opening refuses such a word by 11.
     pub fn of(bits: u16) -> Depth
         ensures { λ r. ⌜ r ≡ depthOf bits ⌝ }
     {
@@ -85,6 +88,9 @@ impl Depth {
     }
 }
 
+// A group's frames: a block's samples, of one channel.
+const FRAMES_PER_GROUP: u32 = Depth::SAMPLES_PER_BLOCK as u32;
+
 // Marks and headers count frames.
 pub struct Frames(pub u32);
 
@@ -104,11 +110,39 @@ impl Frames {
     {
         Samples(self.0 as u64 * channels as u64)
     }
+
+    // Frames / 512, rounded up.
+    pub fn groups(self) -> u32
+        ensures { λ r. ⌜ (r ≡ groupsOf self) × (r ≤ 8388608) ⌝ }
+    {
+        let whole = self.0 / FRAMES_PER_GROUP;
+        if self.0 % FRAMES_PER_GROUP == 0 {
+            whole
+        } else {
+            whole + 1
+        }
+    }
+
+    // How many frames of group g are active; of a group that is not there, none.
+    pub fn active(self, g: u32) -> Frames
+        ensures { λ r. ⌜ (r .0 ≡ active self g) × (r .0 ≤ 512) ⌝ }
+    {
+        let before = FRAMES_PER_GROUP as u64 * g as u64;
+        let all = self.0 as u64;
+        if all <= before {
+            return Frames(0);
+        }
+        let left = all - before;
+        if left < FRAMES_PER_GROUP as u64 {
+            return Frames(left as u32);
+        }
+        Frames(FRAMES_PER_GROUP)
+    }
 }
 
 impl Samples {
     pub fn frames(self, channels: u16) -> Framed
-        ensures { λ r. ⌜ r ≡ framesIn self channels ⌝ }
+        ensures { λ r. ⌜ Framing self channels r ⌝ }
     {
         if channels == 0 {
             return Framed::Incomplete;

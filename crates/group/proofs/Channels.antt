@@ -10,7 +10,7 @@ use lib.IntN.{ℤ}
 use lib.ListN.{length, getD}
 use Rattle.format.specs.Lists.{tab, from}
 use Rattle.format.specs.Packed.{isBeyond}
-use Rattle.format.specs.Blocks.{midBit, codingOf, sizeOf, samplesOf, rest}
+use Rattle.format.specs.Blocks.{midBit, codingOf, sizeOf, samplesOf, fromBlock}
 use Rattle.format.specs.MidSide.{leftRight}
 use Rattle.format.specs.Decoding.{coded, channelsOf}
 use Rattle.format.specs.declared.settings.SampleFormat.{SampleFormat}
@@ -44,22 +44,22 @@ module _ (h : Fields) (f : SampleFormat) (bs : List ℕ) (ok : Readable h f bs) 
   abbrev chans : List (List ℤ)
   chans = coded (h .depth) (h .channels) bs
 
-  known : (c : ℕ) → c < h .channels → isBeyond (codingOf (h .depth) (rest (h .depth) bs c)) ≡ false
-  known c l = bits-known h f c (rest (h .depth) bs c) (block-fine h f bs (ok .fine) c l)
+  known : (c : ℕ) → c < h .channels → isBeyond (codingOf (h .depth) (fromBlock (h .depth) bs c)) ≡ false
+  known c l = bits-known h f c (fromBlock (h .depth) bs c) (block-fine h f bs (ok .fine) c l)
 
-  channel-is : (c : ℕ) → c < h .channels → getD chans c [] ≡ samplesOf (h .depth) (rest (h .depth) bs c)
+  channel-is : (c : ℕ) → c < h .channels → getD chans c [] ≡ samplesOf (h .depth) (fromBlock (h .depth) bs c)
   unfolding coded
-  channel-is c l = getD-tab (h .channels) (λ c. samplesOf (h .depth) (rest (h .depth) bs c)) c [] l
+  channel-is c l = getD-tab (h .channels) (λ c. samplesOf (h .depth) (fromBlock (h .depth) bs c)) c [] l
 
   channel-512 : (c : ℕ) → c < h .channels → length (getD chans c []) ≡ 512
-  channel-512 c l = ap length (channel-is c l) ∙ samples-512 (h .depth) (rest (h .depth) bs c) (known c l)
+  channel-512 c l = ap length (channel-is c l) ∙ samples-512 (h .depth) (fromBlock (h .depth) bs c) (known c l)
 
   channels-count : length chans ≡ h .channels
   unfolding coded
-  channels-count = length-tab (h .channels) (λ c. samplesOf (h .depth) (rest (h .depth) bs c))
+  channels-count = length-tab (h .channels) (λ c. samplesOf (h .depth) (fromBlock (h .depth) bs c))
 
   module _ (c at : ℕ) (b : Begins (h .depth) bs c at) (l : c < h .channels) where
-    here : rest (h .depth) bs c ≡ part at bs
+    here : fromBlock (h .depth) bs c ≡ part at bs
     here = b .left ∙ sym (part-is at bs)
 
     pub whole : Whole (h .depth) (part at bs)
@@ -102,7 +102,7 @@ module _ (h : Fields) (f : SampleFormat) (bs : List ℕ) (ok : Readable h f bs) 
     first-inside = rw size (first-whole .run)
 
     second-begins : Begins (h .depth) bs 1 at
-    unfolding rest
+    unfolding fromBlock
     second-begins = record { inside = first-inside; left = rw size }
 
     module _ (two : h .channels ≡ 2) where
@@ -111,7 +111,7 @@ module _ (h : Fields) (f : SampleFormat) (bs : List ℕ) (ok : Readable h f bs) 
 
       module _ (l r : List ℤ) (p : l ≡ samplesOf (h .depth) bs) (q : r ≡ samplesOf (h .depth) (part at bs)) where
         pair-is : l ∷ r ∷ [] ≡ chans
-        unfolding coded tab rest
+        unfolding coded tab fromBlock
         pair-is = rw (two, p, q, part-is at bs, size)
 
         module _ (b : BlockHeader) (t : Bool) (header : b ≡ blockHeader bs) (mid : t ≡ eqb (b .flags % 2) 1) where

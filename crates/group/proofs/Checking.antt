@@ -7,7 +7,7 @@ use native.Mathlib.Omega.{arith}
 use lib.ListN.{length, length-drop}
 use lib.Dec.{eqb}
 use borrow.Author.Tests.{eq-eqb, ne-eqb}
-use Rattle.format.specs.Blocks.{sizeOf, rest}
+use Rattle.format.specs.Blocks.{sizeOf, fromBlock}
 use Rattle.format.specs.Refusals.{refuse, inOrder, _then_}
 use Rattle.format.specs.declared.refusals.Refusal.{Refusal}
 use Rattle.format.specs.declared.refusals.Checked.{Checked}
@@ -17,12 +17,12 @@ use Rattle.group.proofs.Places.{part, part-is, Begins, begins-first, be
 
 -- n blocks in order, and then that no bytes are left
 abbrev pub blocksThen : ℕ → (ℕ → List ℕ → Checked) → List ℕ → ℕ → Refusal → Checked
-blocksThen depth check bs n left = inOrder (λ c. check c (rest depth bs c)) n then refuse (not (eqb (length (rest depth bs n)) 0)) left
+blocksThen depth check bs n left = inOrder (λ c. check c (fromBlock depth bs c)) n then refuse (not (eqb (length (fromBlock depth bs n)) 0)) left
 
 -- c channels have passed, and the next block begins at `at`
 pub record Passed (depth : ℕ) (check : ℕ → List ℕ → Checked) (bs : List ℕ) (c at : ℕ) : Type 0 where
   pub begins : Begins depth bs c at
-  pub fine : inOrder (λ c. check c (rest depth bs c)) c ≡ Fine
+  pub fine : inOrder (λ c. check c (fromBlock depth bs c)) c ≡ Fine
 
 pub passed-none : (depth : ℕ) (check : ℕ → List ℕ → Checked) (bs : List ℕ) → Passed depth check bs 0 0
 unfolding inOrder
@@ -30,29 +30,29 @@ passed-none depth check bs = record { begins = begins-first depth bs; fine = ref
 
 module _ {depth : ℕ} {check : ℕ → List ℕ → Checked} {bs : List ℕ} {c at : ℕ} (p : Passed depth check bs c at) where
   module _ {k : Checked} (says : k ≡ check c (part at bs)) where
-    checked : k ≡ check c (rest depth bs c)
+    checked : k ≡ check c (fromBlock depth bs c)
     checked = says ∙ ap (check c) (part-is at bs ∙ sym (p .begins .left))
 
     pub stops : {r : Refusal} {n : ℕ} (left : Refusal) → k ≡ No r → c < n → No r ≡ blocksThen depth check bs n left
-    stops {r} {n} left e l = order-stops (λ c. check c (rest depth bs c)) c n r _ l (p .fine) (sym checked ∙ e)
+    stops {r} {n} left e l = order-stops (λ c. check c (fromBlock depth bs c)) c n r _ l (p .fine) (sym checked ∙ e)
 
     pub more : {m : ℕ} → k ≡ Fine → sizeOf depth (part at bs) ≤ length (part at bs) → m ≡ sizeOf depth (part at bs) → Passed depth check bs (c + 1) (at + m)
     more {m} e fits s = record {
       begins = begins-more depth bs c at m (p .begins) fits s;
-      fine = order-more (λ c. check c (rest depth bs c)) c (p .fine) (sym checked ∙ e);
+      fine = order-more (λ c. check c (fromBlock depth bs c)) c (p .fine) (sym checked ∙ e);
     }
 
   module _ {n : ℕ} (all : c ≡ n) where
-    order : inOrder (λ c. check c (rest depth bs c)) n ≡ Fine
-    order = subst (λ (m : ℕ). inOrder (λ c. check c (rest depth bs c)) m ≡ Fine) all (p .fine)
+    order : inOrder (λ c. check c (fromBlock depth bs c)) n ≡ Fine
+    order = subst (λ (m : ℕ). inOrder (λ c. check c (fromBlock depth bs c)) m ≡ Fine) all (p .fine)
 
-    size : length (rest depth bs n) ≡ length bs - at
-    size = ap (λ (m : ℕ). length (rest depth bs m)) (sym all) ∙ ap length (p .begins .left) ∙ length-drop at bs
+    size : length (fromBlock depth bs n) ≡ length bs - at
+    size = ap (λ (m : ℕ). length (fromBlock depth bs m)) (sym all) ∙ ap length (p .begins .left) ∙ length-drop at bs
 
     pub bytes-left : (left : Refusal) → (at ≡ length bs → ⊥) → No left ≡ blocksThen depth check bs n left
     unfolding refuse _then_
-    bytes-left left t = let i = p .begins .inside in rw (order, ne-eqb (length (rest depth bs n)) 0 (λ e. t (omega (arith, size))))
+    bytes-left left t = let i = p .begins .inside in rw (order, ne-eqb (length (fromBlock depth bs n)) 0 (λ e. t (omega (arith, size))))
 
     pub all-fine : (left : Refusal) → at ≡ length bs → Fine ≡ blocksThen depth check bs n left
     unfolding refuse _then_
-    all-fine left e = rw (order, eq-eqb (length (rest depth bs n)) 0 (omega (arith, size)))
+    all-fine left e = rw (order, eq-eqb (length (fromBlock depth bs n)) 0 (omega (arith, size)))

@@ -9,12 +9,13 @@ use lib.ListN.{length, take, drop}
 use lib.Seq.{take-all, take-take}
 use Rattle.format.specs.Lists.{from}
 use Rattle.format.specs.Header.{groupsOf}
-use Rattle.format.specs.Decoding.{active}
+use Rattle.format.specs.Units.{active}
 use Rattle.format.specs.Encoding.{groupIn}
+use Rattle.format.specs.declared.units.Frames.{Frames}
 use Rattle.laws.proofs.Channels.{active-low, group-length}
 use Rattle.lent.specs.Lent.{framesFrom}
 
-module _ (n frames : ℕ) (s : List ℤ) (l : length s ≡ n * frames) where
+module _ (n : ℕ) (frames : Frames) (s : List ℤ) (l : length s ≡ n * frames .0) where
   pub group-frames : (g k : ℕ) → k ≡ active frames g → framesFrom n (512 * g) k s ≡ groupIn n s g
   unfolding groupIn framesFrom from
   group-frames g k count =
@@ -28,9 +29,9 @@ module _ (n frames : ℕ) (s : List ℤ) (l : length s ≡ n * frames) where
   pub group-inside : (g : ℕ) → g < groupsOf frames → (512 * g + active frames g) * n ≤ length s
   unfolding groupsOf active
   group-inside g h =
-      let q : 512 * g + active frames g ≤ frames = omega arith in
+      let q : 512 * g + active frames g ≤ frames .0 = omega arith in
       omega (arith, mul-le-mul-left n q, mul-comm n (512 * g + active frames g))
 
-pub active-some : (frames g : ℕ) → g < groupsOf frames → 0 < active frames g
+pub active-some : (frames : Frames) (g : ℕ) → g < groupsOf frames → 0 < active frames g
 unfolding groupsOf active
 active-some frames g h = omega arith

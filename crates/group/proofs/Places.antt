@@ -5,7 +5,7 @@ use mathlib.Core.List.{List}
 use native.Mathlib.Omega.{arith}
 use lib.ListN.{length, take, drop, length-drop}
 use borrow.Rule.Slice.PartAt.{part-to-end}
-use Rattle.format.specs.Blocks.{sizeOf, rest}
+use Rattle.format.specs.Blocks.{sizeOf, fromBlock}
 use Rattle.laws.proofs.Reading.{rest-none, rest-more}
 
 -- what lies from a place on, as it is lent
@@ -18,7 +18,7 @@ part-is at bs = part-to-end bs at
 -- channel c's block begins at that place
 pub record Begins (depth : ℕ) (bs : List ℕ) (c at : ℕ) : Type 0 where
   pub inside : at ≤ length bs
-  pub left : rest depth bs c ≡ drop at bs
+  pub left : fromBlock depth bs c ≡ drop at bs
 
 pub begins-first : (depth : ℕ) (bs : List ℕ) → Begins depth bs 0 0
 begins-first depth bs = record { inside = omega arith; left = rest-none depth bs }

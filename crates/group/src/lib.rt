@@ -7,19 +7,9 @@ use lent::Container;
 ghost use mathlib.Core.Path.{_≡_};
 ghost use Prim.Native.Nat.{_+_, _*_, _<_, _≤_};
 ghost use lib.ListN.{length};
-ghost use Rattle.format.specs.Header.{groupsOf};
-ghost use Rattle.format.specs.Decoding.{checkGroup, channelsOf, active};
+ghost use Rattle.format.specs.Decoding.{checkGroup, channelsOf};
 ghost use Rattle.lent.specs.Lent.{lentOf, restOf, placed, wovenFrom};
 ghost use Rattle.group.specs.Readable.{Readable};
-
-// How many frames of group g are active.
-pub fn active(frames: u32, g: u32) -> usize
-    requires { ⌜ g < groupsOf frames ⌝ }
-    ensures { λ r. ⌜ (r ≡ active frames g) × (r ≤ 512) ⌝ }
-{
-    let left = frames - 512 * g;
-    if left < 512 { left as usize } else { 512 }
-}
 
 // Each channel in order; after the channels 22.
 pub fn check_group(h: Fields, format: SampleFormat, bs: &[u8]) -> Checked

@@ -3,6 +3,7 @@ use format::Checked;
 use format::Depth;
 use format::DepthWord;
 use format::Fields;
+use format::Frames;
 use format::Refusal;
 use read_bytes::read_u16_le;
 use read_bytes::read_u32_le;
@@ -35,7 +36,7 @@ pub fn read_fields(s: &[u8]) -> Fields
         channels: read_u16_le(s, 8),
         depth: read_u16_le(s, 10),
         rate: read_u32_le(s, 12),
-        frames: read_u32_le(s, 16),
+        frames: Frames(read_u32_le(s, 16)),
         table: read_u32_le(s, 20),
         start: read_u32_le(s, 24),
         size: read_u32_le(s, 28),
@@ -66,27 +67,17 @@ pub fn check_fields(h: Fields) -> Checked
     Checked::Fine
 }
 
-// Frames / 512, rounded up.
-pub fn groups_of(frames: u32) -> u32
-    ensures { λ r. ⌜ (r ≡ groupsOf frames) × (r ≤ 8388608) ⌝ }
-{
-    if frames % 512 == 0 {
-        frames / 512
-    } else {
-        frames / 512 + 1
-    }
-}
-
 pub fn check_offsets(h: Fields, n: usize) -> Checked
     ensures { λ r. ⌜ r ≡ checkOffsets h n ⌝ }
 {
+    let frames = h.frames;
     if h.table < 120 {
         return Checked::No(Refusal::TableOffset);
     }
     if h.start < h.table {
         return Checked::No(Refusal::DataOffset);
     }
-    if h.start - h.table != 4 * (groups_of(h.frames) + 1) {
+    if h.start - h.table != 4 * (frames.groups() + 1) {
         return Checked::No(Refusal::TableLength);
     }
     if n < h.start as usize + h.size as usize {
@@ -136,7 +127,8 @@ pub fn check_table(s: &[u8], h: Fields) -> Checked
     requires { ⌜ h .table + 4 * (groupsOf (h .frames) + 1) ≤ length (now s) ⌝ }
     ensures { λ r. ⌜ r ≡ checkTable (now (s .entry)) h ⌝ }
 {
-    let g = groups_of(h.frames);
+    let frames = h.frames;
+    let g = frames.groups();
     if entry_at(s, h, g) != h.size {
         return Checked::No(Refusal::LastEntry);
     }

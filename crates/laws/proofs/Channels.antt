@@ -11,8 +11,10 @@ use lib.IntN.{ℤ, pos}
 use lib.Pow.{pow-pos}
 use Rattle.format.specs.Lists.{joined, from, lastOr}
 use Rattle.format.specs.Header.{groupsOf}
-use Rattle.format.specs.Decoding.{woven, active}
-use Rattle.format.specs.Encoding.{channel, plain, padded, split, groupIn}
+use Rattle.format.specs.Units.{active}
+use Rattle.format.specs.Decoding.{woven}
+use Rattle.format.specs.Encoding.{channel, unwoven, padded, paddedChannels, groupIn}
+use Rattle.format.specs.declared.units.Frames.{Frames}
 use Rattle.laws.proofs.Parts.{length-tab, getD-tab, joined-cong, joined-from, joined-at}
 use Rattle.laws.proofs.Each.{Each, each-append, each-tab, each-replicate, each-from, each-joined}
 use Rattle.laws.proofs.Signs.{Holds, AllHold}
@@ -47,18 +49,18 @@ module _ (n k : ℕ) (some : 1 ≤ n) (s : List ℤ) (l : length s ≡ n * k) wh
   channel-holds b c h = each-tab (Holds b) (pos 0) (pow-pos (b - 1)) (length s / n) (λ i. getD s (i * n + c) (pos 0)) (λ i q. h (i * n + c))
 
   -- as they stand
-  pub plain-is : (c : ℕ) → c < n → getD (plain n s) c [] ≡ channel n s c
-  unfolding plain
+  pub plain-is : (c : ℕ) → c < n → getD (unwoven n s) c [] ≡ channel n s c
+  unfolding unwoven
   plain-is c q = getD-tab n (channel n s) c [] q
 
-  pub plain-at : (c i : ℕ) → c < n → i < k → getD (getD (plain n s) c []) i (pos 0) ≡ getD s (i * n + c) (pos 0)
+  pub plain-at : (c i : ℕ) → c < n → i < k → getD (getD (unwoven n s) c []) i (pos 0) ≡ getD s (i * n + c) (pos 0)
   plain-at c i q h = ap (λ (x : List ℤ). getD x i (pos 0)) (plain-is c q) ∙ channel-at c i h
 
-  pub plain-long : (c : ℕ) → c < n → length (getD (plain n s) c []) ≡ k
+  pub plain-long : (c : ℕ) → c < n → length (getD (unwoven n s) c []) ≡ k
   plain-long c q = ap length (plain-is c q) ∙ channel-length c
 
-  pub plain-level : (b : ℕ) → AllHold b s → Level b n k (plain n s)
-  unfolding plain
+  pub plain-level : (b : ℕ) → AllHold b s → Level b n k (unwoven n s)
+  unfolding unwoven
   plain-level b h =
       record {
         count = length-tab n (channel n s);
@@ -84,15 +86,15 @@ module _ (n k : ℕ) (some : 1 ≤ n) (s : List ℤ) (l : length s ≡ n * k) wh
     unfolding padded
     padded-at c i h = List·getD-append (channel n s c) _ (pos 0) i (omega (arith, channel-length c)) ∙ channel-at c i h
 
-    pub split-is : (c : ℕ) → c < n → getD (split n s) c [] ≡ padded (channel n s c)
-    unfolding split
+    pub split-is : (c : ℕ) → c < n → getD (paddedChannels n s) c [] ≡ padded (channel n s c)
+    unfolding paddedChannels
     split-is c q = getD-tab n (λ c. padded (channel n s c)) c [] q
 
-    pub split-at : (c i : ℕ) → c < n → i < k → getD (getD (split n s) c []) i (pos 0) ≡ getD s (i * n + c) (pos 0)
+    pub split-at : (c i : ℕ) → c < n → i < k → getD (getD (paddedChannels n s) c []) i (pos 0) ≡ getD s (i * n + c) (pos 0)
     split-at c i q h = ap (λ (x : List ℤ). getD x i (pos 0)) (split-is c q) ∙ padded-at c i h
 
-    pub split-level : (b : ℕ) → AllHold b s → Level b n 512 (split n s)
-    unfolding split
+    pub split-level : (b : ℕ) → AllHold b s → Level b n 512 (paddedChannels n s)
+    unfolding paddedChannels
     split-level b h =
         record {
           count = length-tab n (λ c. padded (channel n s c));
@@ -143,9 +145,9 @@ unfolding woven
 each-woven P z k chans p = each-joined P (pos 0) z (frameOf chans) k (λ i l c. rw (frame-at chans i c) (p c i))
 
 -- the padded channels give their samples back
-pub woven-split : (n k : ℕ) → 1 ≤ n → k ≤ 512 → (s : List ℤ) → length s ≡ n * k → woven k (split n s) ≡ s
-unfolding split
-woven-split n k some few s l = woven-back n k s l (split n s) (length-tab n (λ c. padded (channel n s c))) (split-at n k some s l few)
+pub woven-split : (n k : ℕ) → 1 ≤ n → k ≤ 512 → (s : List ℤ) → length s ≡ n * k → woven k (paddedChannels n s) ≡ s
+unfolding paddedChannels
+woven-split n k some few s l = woven-back n k s l (paddedChannels n s) (length-tab n (λ c. padded (channel n s c))) (split-at n k some s l few)
 
 -- ---- the groups of a whole list: n × frames samples
 mul-min : (w a b : ℕ) → w * min a b ≡ min (w * a) (w * b)
@@ -155,7 +157,7 @@ mul-min w a b =
       | no h ↦ let e : min a b ≡ b = omega arith in let h′ : b ≤ a = omega arith in ap (λ (x : ℕ). w * x) e ∙ omega (arith, mul-le-mul-left w h′)
     ]
 
-pub active-low : (frames g : ℕ) → active frames g ≤ 512
+pub active-low : (frames : Frames) (g : ℕ) → active frames g ≤ 512
 unfolding active
 active-low frames g = omega arith
 
@@ -167,17 +169,17 @@ pub group-holds : (b n : ℕ) (s : List ℤ) (g : ℕ) → AllHold b s → AllHo
 unfolding groupIn
 group-holds b n s g = each-from (Holds b) (pos 0) (pow-pos (b - 1)) (512 * n * g) (512 * n) s
 
-module _ (n frames : ℕ) (s : List ℤ) (l : length s ≡ n * frames) where
+module _ (n : ℕ) (frames : Frames) (s : List ℤ) (l : length s ≡ n * frames .0) where
   pub group-length : (g : ℕ) → length (groupIn n s g) ≡ n * active frames g
   unfolding groupIn from active
   group-length g =
       let e = group-starts n g in
-      let d : length (drop (512 * n * g) s) ≡ n * (frames - 512 * g) = length-drop (512 * n * g) s ∙ omega (arith, mul-sub n frames (512 * g)) in
-      length-take (512 * n) (drop (512 * n * g) s) ∙ ap₂ min (mul-comm 512 n) d ∙ sym (mul-min n 512 (frames - 512 * g))
+      let d : length (drop (512 * n * g) s) ≡ n * (frames .0 - 512 * g) = length-drop (512 * n * g) s ∙ omega (arith, mul-sub n (frames .0) (512 * g)) in
+      length-take (512 * n) (drop (512 * n * g) s) ∙ ap₂ min (mul-comm 512 n) d ∙ sym (mul-min n 512 (frames .0 - 512 * g))
 
   -- the groups, joined
   pub groups-joined : joined (groupIn n s) (groupsOf frames) ≡ s
   unfolding groupIn groupsOf
   groups-joined =
-      let g = (frames + 511) / 512 in
-      joined-from (512 * n) s g ∙ take-all (512 * n * g) s (omega (arith, mul-le-mul-left {m = frames} {n = 512 * g} n (omega arith), group-starts n g))
+      let g = (frames .0 + 511) / 512 in
+      joined-from (512 * n) s g ∙ take-all (512 * n * g) s (omega (arith, mul-le-mul-left {m = frames .0} {n = 512 * g} n (omega arith), group-starts n g))

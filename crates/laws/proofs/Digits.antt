@@ -10,7 +10,7 @@ use lib.Arith.{digits-lt, digits-div, digits-mod, mod-mul}
 use lib.Pow.{pow-add, pow-pos}
 use Rattle.format.specs.Lists.{from}
 use Rattle.format.specs.Numbers.{num, digits, Below, le, numAt}
-use Rattle.format.specs.Packed.{codes, bytes}
+use Rattle.format.specs.Packed.{codesIn, runOf}
 
 -- ---- powers
 
@@ -86,28 +86,28 @@ there-and-back B C n xs h pos e =
 pub same-room : (b : ℕ) → (2 ^ b) ^ 512 ≡ 256 ^ (64 * b)
 same-room b = sym (pow-mul 2 b 512) ∙ ap (λ (x : ℕ). 2 ^ x) (omega arith) ∙ pow-mul 2 8 (64 * b)
 
-pub unpack-pack : (b : ℕ) (cs : List ℕ) → length cs ≡ 512 → Below (2 ^ b) cs → codes b (bytes b cs) ≡ cs
-unfolding codes bytes
+pub unpack-pack : (b : ℕ) (cs : List ℕ) → length cs ≡ 512 → Below (2 ^ b) cs → codesIn b (runOf b cs) ≡ cs
+unfolding codesIn runOf
 unpack-pack b cs e h =
     subst (λ (n : ℕ). digits (2 ^ b) n (num 256 (digits 256 (64 * b) (num (2 ^ b) cs))) ≡ cs) e
     (there-and-back (2 ^ b) 256 (64 * b) cs h (zero-lt-suc 255) (ap (λ (n : ℕ). (2 ^ b) ^ n) e ∙ same-room b))
 
-pub pack-unpack : (b : ℕ) (s : List ℕ) → length s ≡ 64 * b → Below 256 s → bytes b (codes b s) ≡ s
-unfolding codes bytes
+pub pack-unpack : (b : ℕ) (s : List ℕ) → length s ≡ 64 * b → Below 256 s → runOf b (codesIn b s) ≡ s
+unfolding codesIn runOf
 pack-unpack b s e h =
     subst (λ (n : ℕ). digits 256 n (num (2 ^ b) (digits (2 ^ b) 512 (num 256 s))) ≡ s) e
     (there-and-back 256 (2 ^ b) 512 s h (pow-pos b) (ap (λ (n : ℕ). 256 ^ n) e ∙ sym (same-room b)))
 
-pub codes-low : (b : ℕ) (s : List ℕ) → Below (2 ^ b) (codes b s)
-unfolding codes
+pub codes-low : (b : ℕ) (s : List ℕ) → Below (2 ^ b) (codesIn b s)
+unfolding codesIn
 codes-low b s = digits-below (2 ^ b) (pow-pos b) 512 (num 256 s)
 
-pub length-bytes : (b : ℕ) (cs : List ℕ) → length (bytes b cs) ≡ 64 * b
-unfolding bytes
+pub length-bytes : (b : ℕ) (cs : List ℕ) → length (runOf b cs) ≡ 64 * b
+unfolding runOf
 length-bytes b cs = length-digits 256 (64 * b) (num (2 ^ b) cs)
 
-pub length-codes : (b : ℕ) (s : List ℕ) → length (codes b s) ≡ 512
-unfolding codes
+pub length-codes : (b : ℕ) (s : List ℕ) → length (codesIn b s) ≡ 512
+unfolding codesIn
 length-codes b s = length-digits (2 ^ b) 512 (num 256 s)
 
 -- ---- little-endian numbers

@@ -7,7 +7,7 @@ use lib.ListN.{length}
 use lib.Dec.{eqb}
 use borrow.Author.Tests.{ltb-false, eqb-true, not-false}
 use Rattle.format.specs.Packed.{isBeyond}
-use Rattle.format.specs.Blocks.{midBit, codingOf, sizeOf, rest}
+use Rattle.format.specs.Blocks.{midBit, codingOf, sizeOf, fromBlock}
 use Rattle.format.specs.Decoding.{checkBlock, checkGroup}
 use Rattle.format.specs.declared.refusals.Checked.the-variants.{Fine}
 use Rattle.format.specs.declared.settings.SampleFormat.{SampleFormat}
@@ -28,12 +28,12 @@ module _ (h : Fields) (f : SampleFormat) (c : ℕ) (r : List ℕ) (fine : checkB
   run-there = ltb-false (length r) (sizeOf (h .depth) r) (passed _ _ (others-fine _ _ (others-fine _ _ (others-fine _ _ (others-fine _ _ (others-fine _ _ fine))))))
 
 module _ (h : Fields) (f : SampleFormat) (bs : List ℕ) (fine : checkGroup h f bs ≡ Fine) where
-  pub block-fine : (c : ℕ) → c < h .channels → checkBlock h f c (rest (h .depth) bs c) ≡ Fine
+  pub block-fine : (c : ℕ) → c < h .channels → checkBlock h f c (fromBlock (h .depth) bs c) ≡ Fine
   unfolding checkGroup
-  block-fine c l = order-fine (λ c. checkBlock h f c (rest (h .depth) bs c)) c (h .channels) l (first-fine _ _ fine)
+  block-fine c l = order-fine (λ c. checkBlock h f c (fromBlock (h .depth) bs c)) c (h .channels) l (first-fine _ _ fine)
 
   pub mid-two : 1 ≤ h .channels → midBit bs ≡ true → h .channels ≡ 2
-  unfolding checkBlock rest
+  unfolding checkBlock fromBlock
   mid-two some m =
       let e = passed _ _ (first-fine _ _ (others-fine _ _ (others-fine _ _ (others-fine _ _ (block-fine 0 some))))) in
       eqb-true (h .channels) 2 (not-false _ (subst (λ (b : Bool). (b && not (eqb (h .channels) 2)) ≡ false) m e))

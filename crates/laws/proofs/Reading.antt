@@ -9,7 +9,7 @@ use lib.ListN.{length, getD, drop}
 use lib.Seq.{drop-cons, drop-drop}
 use Rattle.format.specs.Lists.{from}
 use Rattle.format.specs.Numbers.{num, Below, numAt}
-use Rattle.format.specs.Blocks.{sizeOf, rest}
+use Rattle.format.specs.Blocks.{sizeOf, fromBlock}
 use Rattle.format.specs.Refusals.{_then_, inOrder}
 use Rattle.format.specs.declared.refusals.Refusal.{Refusal}
 use Rattle.format.specs.declared.refusals.Checked.{Checked}
@@ -88,10 +88,10 @@ module _ (check : ℕ → Checked) (groups g n : ℕ) (all : groups ≡ n) (fine
   order-whole e = sym (subst (λ (k : ℕ). inOrder check k ≡ Fine) (e ∙ all) fine)
 
 -- ---- the place of channel c's block: what is left is what lies from it on
-pub rest-none : (depth : ℕ) (bs : List ℕ) → rest depth bs 0 ≡ drop 0 bs
-unfolding rest
+pub rest-none : (depth : ℕ) (bs : List ℕ) → fromBlock depth bs 0 ≡ drop 0 bs
+unfolding fromBlock
 rest-none depth bs = refl
 
-pub rest-more : (depth : ℕ) (bs : List ℕ) (c at n : ℕ) → rest depth bs c ≡ drop at bs → n ≡ sizeOf depth (drop at bs) → rest depth bs (c + 1) ≡ drop (at + n) bs
-unfolding rest
+pub rest-more : (depth : ℕ) (bs : List ℕ) (c at n : ℕ) → fromBlock depth bs c ≡ drop at bs → n ≡ sizeOf depth (drop at bs) → fromBlock depth bs (c + 1) ≡ drop (at + n) bs
+unfolding fromBlock
 rest-more depth bs c at n e z = rw add-one (rw (e, ← z) (drop-drop n at bs))

@@ -5,7 +5,7 @@ use mathlib.Core.Bool.{Bool, true, false, _&&_, cond}
 use mathlib.Core.List.{List, [], _∷_, map}
 use native.Mathlib.Nat.{pow-suc}
 use native.Mathlib.Omega.{arith}
-use lib.IntN.{ℤ, pos, negsuc}
+use lib.IntN.{ℤ, pos, negsuc, negℤ}
 use lib.Signed.{mag}
 use lib.Dec.{ltb}
 use lib.Pow.{pow-pos}
@@ -14,7 +14,7 @@ use borrow.Author.Tests.{lt-ltb, le-ltb, ltb-true, ltb-false}
 use lib.Arith.{comp-comp}
 use Rattle.format.specs.Lists.{every}
 use Rattle.format.specs.Numbers.{Below, value, codeOf, holds}
-use Rattle.format.specs.Packed.{codes, bytes, values, packing}
+use Rattle.format.specs.Packed.{codesIn, runOf, values, packing}
 use Rattle.laws.proofs.Tests.{and-left, and-right}
 use Rattle.laws.proofs.Digits.{unpack-pack, pack-unpack, codes-low, length-bytes}
 
@@ -31,11 +31,24 @@ twice b h =
     let d : 2 ^ (b - 1) * 2 ≡ 2 ^ (b - 1) + 2 ^ (b - 1) = omega arith in
     ap (λ (x : ℕ). 2 ^ x) e ∙ pow-suc 2 (b - 1) ∙ d
 
-pub value-pos : (b c : ℕ) → c < 2 ^ (b - 1) → value b c ≡ pos c
-value-pos b c h = ap (λ (t : Bool). cond t (pos c) (negsuc (2 ^ b - suc c))) (lt-ltb c (2 ^ (b - 1)) h)
+-- − n
+pub minus-is : (n : ℕ) → 1 ≤ n → negℤ (pos n) ≡ negsuc (n - 1)
+minus-is zero h = absurd (omega arith)
+minus-is (suc n) h = let e : n ≡ suc n - 1 = omega arith in ap negsuc e
 
-pub value-neg : (b c : ℕ) → 2 ^ (b - 1) ≤ c → value b c ≡ negsuc (2 ^ b - suc c)
-value-neg b c h = ap (λ (t : Bool). cond t (pos c) (negsuc (2 ^ b - suc c))) (le-ltb c (2 ^ (b - 1)) h)
+-- − (m − c), where c is below m
+less : (c m : ℕ) → c < m → negℤ (pos (m - c)) ≡ negsuc (m - suc c)
+less c m h = let e : m - c - 1 ≡ m - suc c = omega arith in minus-is (m - c) (omega arith) ∙ ap negsuc e
+
+-- a code's meaning, by the number that its bits are
+pub value-is : (b c : ℕ) → c < 2 ^ b → value b c ≡ cond (ltb c (2 ^ (b - 1))) (pos c) (negsuc (2 ^ b - suc c))
+value-is b c h = ap (cond (ltb c (2 ^ (b - 1))) (pos c)) (less c (2 ^ b) h)
+
+pub value-pos : (b c : ℕ) → c < 2 ^ (b - 1) → value b c ≡ pos c
+value-pos b c h = ap (λ (t : Bool). cond t (pos c) (negℤ (pos (2 ^ b - c)))) (lt-ltb c (2 ^ (b - 1)) h)
+
+pub value-neg : (b c : ℕ) → 2 ^ (b - 1) ≤ c → c < 2 ^ b → value b c ≡ negsuc (2 ^ b - suc c)
+value-neg b c h l = ap (λ (t : Bool). cond t (pos c) (negℤ (pos (2 ^ b - c)))) (le-ltb c (2 ^ (b - 1)) h) ∙ less c (2 ^ b) l
 
 -- ---- the two invert each other
 
@@ -48,7 +61,7 @@ value-code b l (pos n) h = value-pos b n h
 value-code b l (negsuc n) h =
     let e : 2 ^ b ≡ 2 ^ (b - 1) + 2 ^ (b - 1) = twice b l in
     let d : 2 ^ b - suc (2 ^ b - suc n) ≡ n = omega (arith, e) in
-    value-neg b (2 ^ b - suc n) (omega (arith, e)) ∙ ap negsuc d
+    value-neg b (2 ^ b - suc n) (omega (arith, e)) (omega (arith, pow-pos b)) ∙ ap negsuc d
 
 -- the codes of numbers that b bits hold
 pub codes-below : (b : ℕ) → 1 ≤ b → (vs : List ℤ) → AllHold b vs → Below (2 ^ b) (map (codeOf b) vs)
@@ -69,7 +82,7 @@ code-back b c true h = refl
 code-back b c false h = comp-comp h
 
 pub code-value : (b c : ℕ) → c < 2 ^ b → codeOf b (value b c) ≡ c
-code-value b c h = code-back b c (ltb c (2 ^ (b - 1))) h
+code-value b c h = ap (codeOf b) (value-is b c h) ∙ code-back b c (ltb c (2 ^ (b - 1))) h
 
 map-forth : (b : ℕ) (cs : List ℕ) → Below (2 ^ b) cs → map (codeOf b) (map (value b) cs) ≡ cs
 map-forth b [] h = refl
@@ -77,7 +90,7 @@ map-forth b (c ∷ cs) h = ap₂ (λ (x : ℕ) (xs : List ℕ). x ∷ xs) (code-
 
 pub packing-values : (b : ℕ) (s : List ℕ) → length s ≡ 64 * b → Below 256 s → packing b (values b s) ≡ s
 unfolding values packing
-packing-values b s e h = ap (bytes b) (map-forth b (codes b s) (codes-low b s)) ∙ pack-unpack b s e h
+packing-values b s e h = ap (runOf b) (map-forth b (codesIn b s) (codes-low b s)) ∙ pack-unpack b s e h
 
 pub length-packing : (b : ℕ) (vs : List ℤ) → length (packing b vs) ≡ 64 * b
 unfolding packing
@@ -94,7 +107,7 @@ holds-by b c true l h e = ltb-true c (2 ^ (b - 1)) e
 holds-by b c false l h e = omega (arith, ltb-false c (2 ^ (b - 1)) e, twice b l)
 
 pub value-holds : (b c : ℕ) → 1 ≤ b → c < 2 ^ b → Holds b (value b c)
-value-holds b c l h = holds-by b c (ltb c (2 ^ (b - 1))) l h refl
+value-holds b c l h = subst (Holds b) (sym (value-is b c h)) (holds-by b c (ltb c (2 ^ (b - 1))) l h refl)
 
 pub holds-every : (b : ℕ) (vs : List ℤ) → AllHold b vs → every (holds b) vs ≡ true
 unfolding every

@@ -11,7 +11,7 @@ use mir.Syntax.{w32}
 use mir.Val.{SFits}
 use Rattle.format.specs.Lists.{tab, pairwise, every}
 use Rattle.format.specs.MidSide.{left, right, leftRight}
-use Rattle.format.specs.Encoding.{channel, plain, padded, split, mid, side, midSide, equalParity, parity}
+use Rattle.format.specs.Encoding.{channel, unwoven, padded, paddedChannels, mid, side, midSide, equalParity, parity}
 use Rattle.format.specs.declared.settings.SampleFormat.the-variants.{Pcm}
 use Rattle.laws.proofs.Tests.{never}
 use Rattle.laws.proofs.Parts.{length-tab}
@@ -193,6 +193,6 @@ channel-count : (n : ℕ) (s : List ℤ) (c : ℕ) → length (channel n s c) �
 unfolding channel
 channel-count n s c = length-tab (length s / n) (λ i. getD s (i * n + c) (pos 0))
 
-pub parity-split : (s : List ℤ) → parity (split 2 s) ≡ parity (plain 2 s)
-unfolding parity split plain tab
+pub parity-split : (s : List ℤ) → parity (paddedChannels 2 s) ≡ parity (unwoven 2 s)
+unfolding parity paddedChannels unwoven tab
 parity-split s = even-same (channel 2 s 0) (channel 2 s 1) (channel-count 2 s 0 ∙ sym (channel-count 2 s 1))

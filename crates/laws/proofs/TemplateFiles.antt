@@ -12,10 +12,11 @@ use lib.Dec.{leb}
 use borrow.Author.Tests.{ltb-false, leb-false, eqb-true, not-false}
 use mathlib.Core.Bool.{true}
 use Rattle.format.specs.Lists.{joined}
-use Rattle.format.specs.Header.{isSignature, fieldsOf, groupsOf, entry, group}
-use Rattle.format.specs.Decoding.{active}
-use Rattle.format.specs.Encoding.{groupIn, checkSamples}
-use Rattle.format.specs.Reencoding.{checkNewGroup, newGroup, checkSame, checkBounds, checkRising, checkTemplate, checkReencoder, checkReencode, refileOf}
+use Rattle.format.specs.Header.{isSignature, fieldsOf, groupsOf, entry, groupBytes}
+use Rattle.format.specs.Units.{active}
+use Rattle.format.specs.Encoding.{groupIn, checkSamples, framesOf}
+use Rattle.format.specs.Reencoding.{checkReencodeGroup, reencodedGroup, checkSame, checkBounds, checkRising, checkTemplate, checkReencoder, checkReencode, reencodedFile}
+use Rattle.format.specs.declared.units.Frames.{Frames}
 use Rattle.format.specs.declared.refusals.Checked.the-variants.{Fine}
 use Rattle.format.specs.declared.settings.PcmSpec.{PcmSpec}
 use Rattle.format.specs.declared.answers.Fields.{Fields}
@@ -49,7 +50,7 @@ module _ (p : PcmSpec) (s : List ℤ) (t : List ℕ) (template : checkTemplate p
   unfolding checkTemplate
   signed-ok = not-false _ (passed _ _ (first-fine _ _ (others-fine _ _ template)))
 
-  pub same-ok : checkSame p (length s / p .channels) h ≡ Fine
+  pub same-ok : checkSame p (framesOf p s) h ≡ Fine
   unfolding checkTemplate
   same-ok = first-fine _ _ (others-fine _ _ (others-fine _ _ template))
 
@@ -73,9 +74,9 @@ module _ (p : PcmSpec) (s : List ℤ) (t : List ℕ) (template : checkTemplate p
   unfolding checkSame
   rate-is = eqb-true (h .rate) (p .«sample_rate») (not-false _ (passed _ _ (first-fine _ _ (others-fine _ _ (others-fine _ _ same-ok)))))
 
-  pub frames-are : h .frames ≡ length s / p .channels
+  pub frames-are : h .frames .0 ≡ length s / p .channels
   unfolding checkSame
-  frames-are = eqb-true (h .frames) (length s / p .channels) (not-false _ (passed _ _ (others-fine _ _ (others-fine _ _ (others-fine _ _ same-ok)))))
+  frames-are = eqb-true (h .frames .0) (length s / p .channels) (not-false _ (passed _ _ (others-fine _ _ (others-fine _ _ (others-fine _ _ same-ok)))))
 
   pub table-ok : 120 ≤ h .table
   unfolding checkBounds
@@ -112,16 +113,16 @@ module _ (p : PcmSpec) (s : List ℤ) (t : List ℕ) (template : checkTemplate p
   pub entry-within : (k : ℕ) → k ≤ count → h .start + entry t h k ≤ length t
   entry-within k l = omega (arith, rising (entry t h) count entry-rises k l, entry-last, end-ok)
 
-  pub old-length : (g : ℕ) → g < count → length (group t h g) ≡ entry t h (g + 1) - entry t h g
-  unfolding group
+  pub old-length : (g : ℕ) → g < count → length (groupBytes t h g) ≡ entry t h (g + 1) - entry t h g
+  unfolding groupBytes
   old-length g l =
       length-from (h .start + entry t h g) (entry t h (g + 1) - entry t h g) t (omega (arith, entry-within (g + 1) (omega arith), entry-rises g l))
 
   -- ---- and so did the samples: s is whole frames, as many as the template has
-  pub all-frames : checkSamples p s ≡ Fine → length s ≡ h .channels * h .frames
+  pub all-frames : checkSamples p s ≡ Fine → length s ≡ h .channels * h .frames .0
   all-frames samples = rw (channels-are, frames-are) (frames-ok p s samples)
 
-pub some-active : (frames g : ℕ) → g < groupsOf frames → 1 ≤ active frames g
+pub some-active : (frames : Frames) (g : ℕ) → g < groupsOf frames → 1 ≤ active frames g
 unfolding active groupsOf
 some-active frames g l = omega arith
 
@@ -145,17 +146,17 @@ module _ (p : PcmSpec) (s : List ℤ) (t : List ℕ) (ok : checkReencode p s t �
   unfolding checkReencode
   template-ok = first-fine _ _ (others-fine _ _ (others-fine _ _ ok))
 
-  pub groups-ok : (g : ℕ) → g < n → checkNewGroup (f .depth) (f .channels) (group t f g) (groupIn (f .channels) s g) ≡ Fine
+  pub groups-ok : (g : ℕ) → g < n → checkReencodeGroup (f .depth) (f .channels) (groupBytes t f g) (groupIn (f .channels) s g) ≡ Fine
   unfolding checkReencode
   groups-ok g l =
-      order-fine (λ g. checkNewGroup (f .depth) (f .channels) (group t f g) (groupIn (f .channels) s g)) g n l
+      order-fine (λ g. checkReencodeGroup (f .depth) (f .channels) (groupBytes t f g) (groupIn (f .channels) s g)) g n l
       (others-fine _ _ (others-fine _ _ (others-fine _ _ ok)))
 
   abbrev pub part : ℕ → List ℕ
-  part g = newGroup (f .depth) (f .channels) (group t f g) (groupIn (f .channels) s g)
+  part g = reencodedGroup (f .depth) (f .channels) (groupBytes t f g) (groupIn (f .channels) s g)
 
   part-length : (g : ℕ) → g < n → length (part g) ≡ entry t f (g + 1) - entry t f g
-  part-length g l = new-group-length (f .depth) (f .channels) (group t f g) (groupIn (f .channels) s g) (groups-ok g l) ∙ old-length p s t template-ok g l
+  part-length g l = new-group-length (f .depth) (f .channels) (groupBytes t f g) (groupIn (f .channels) s g) (groups-ok g l) ∙ old-length p s t template-ok g l
 
   -- the table's entries are where the new groups begin
   pub entries-same : (k : ℕ) → k ≤ n → entry t f k ≡ length (joined part k)
@@ -180,12 +181,12 @@ module _ (p : PcmSpec) (s : List ℤ) (t : List ℕ) (ok : checkReencode p s t �
   pub front-length : length front ≡ f .start
   front-length = length-take-le (f .start) t (omega (arith, end-ok p s t template-ok))
 
-  pub file-is : refileOf s t ≡ front ++ (joined part n ++ back)
-  unfolding refileOf
+  pub file-is : reencodedFile s t ≡ front ++ (joined part n ++ back)
+  unfolding reencodedFile
   file-is = refl
 
   -- the new file is as long as the template
-  pub same-length : length (refileOf s t) ≡ length t
+  pub same-length : length (reencodedFile s t) ≡ length t
   same-length =
       ap length file-is ∙ length-append front (joined part n ++ back)
       ∙ omega (arith, front-length, length-append (joined part n) back, length-drop (f .start + f .size) t, size-is, end-ok p s t template-ok)

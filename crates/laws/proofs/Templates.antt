@@ -14,9 +14,9 @@ use Rattle.format.specs.Numbers.{numAt, codeOf, holds}
 use Rattle.format.specs.Packed.{widthOf, packing, isBeyond}
 use Rattle.format.specs.declared.packed.Coding.{Coding}
 use Rattle.format.specs.declared.packed.Coding.the-variants.{Differences, Raw, Beyond}
-use Rattle.format.specs.Blocks.{isBlock, midBit, codingOf, sizeOf, rest}
-use Rattle.format.specs.Encoding.{plain, head0, midSide, parity}
-use Rattle.format.specs.Reencoding.{valuesFor, baseFor, newBlock, checkNewBlock, activeIn, checkNewGroup, newGroup}
+use Rattle.format.specs.Blocks.{isBlock, midBit, codingOf, sizeOf, fromBlock}
+use Rattle.format.specs.Encoding.{unwoven, firstValue, midSide, parity}
+use Rattle.format.specs.Reencoding.{valuesFor, baseFor, reencodedBlock, checkReencodeBlock, activeIn, checkReencodeGroup, reencodedGroup}
 use Rattle.format.specs.Refusals.{refuse}
 use Rattle.format.specs.declared.refusals.Refusal.the-variants.{WidthTooSmall}
 use Rattle.format.specs.declared.refusals.Checked.the-variants.{Fine}
@@ -37,8 +37,8 @@ pub record Template (depth : ℕ) (r : List ℕ) (xs : List ℤ) : Type 0 where
   pub sized : sizeOf depth r ≤ length r
   pub fit : AllHold (widthOf (codingOf depth r)) (valuesFor depth r xs)
 
-pub template-ok : (depth : ℕ) (r : List ℕ) (xs : List ℤ) → checkNewBlock depth r xs ≡ Fine → Template depth r xs
-unfolding checkNewBlock
+pub template-ok : (depth : ℕ) (r : List ℕ) (xs : List ℤ) → checkReencodeBlock depth r xs ≡ Fine → Template depth r xs
+unfolding checkReencodeBlock
 template-ok depth r xs e =
     let e2 = others-fine _ _ e in
     let e3 = others-fine _ _ e2 in
@@ -62,8 +62,8 @@ template-ok depth r xs e =
 
 -- with other samples only 36 is left to refuse
 pub fit-decides : (depth : ℕ) (r : List ℕ) (xs ys : List ℤ) → Template depth r xs
-    → checkNewBlock depth r ys ≡ refuse (not (every (holds (widthOf (codingOf depth r))) (valuesFor depth r ys))) WidthTooSmall
-unfolding checkNewBlock
+    → checkReencodeBlock depth r ys ≡ refuse (not (every (holds (widthOf (codingOf depth r))) (valuesFor depth r ys))) WidthTooSmall
+unfolding checkReencodeBlock
 fit-decides depth r xs ys ok =
     pass _ _ (le-ltb (length r) 16 (ok .head))
     and-then pass _ _ (ap not (ok .mark))
@@ -76,13 +76,13 @@ fit-decides depth r xs ys ok =
 
 pub base-4 : (k : Coding) (r : List ℕ) (xs : List ℤ) → 16 ≤ length r → length (baseFor k r xs) ≡ 4
 unfolding baseFor
-base-4 (Differences b) r xs h = length-le 4 (codeOf 32 (head0 xs))
+base-4 (Differences b) r xs h = length-le 4 (codeOf 32 (firstValue xs))
 base-4 (Raw b) r xs h = length-from 4 4 r (omega arith)
 base-4 Beyond r xs h = length-from 4 4 r (omega arith)
 
 -- the new block is as long as it was
-pub new-length : (depth : ℕ) (r : List ℕ) (xs : List ℤ) → 16 ≤ length r → length (newBlock depth r xs) ≡ sizeOf depth r
-unfolding newBlock sizeOf
+pub new-length : (depth : ℕ) (r : List ℕ) (xs : List ℤ) → 16 ≤ length r → length (reencodedBlock depth r xs) ≡ sizeOf depth r
+unfolding reencodedBlock sizeOf
 new-length depth r xs head =
     let c = codingOf depth r in
     let base = baseFor c r xs in
@@ -99,10 +99,10 @@ new-length depth r xs head =
     )
 
 -- ---- a template's group bs that passed with the samples s
-module _ (depth n : ℕ) (bs : List ℕ) (s : List ℤ) (fine : checkNewGroup depth n bs s ≡ Fine) where
+module _ (depth n : ℕ) (bs : List ℕ) (s : List ℤ) (fine : checkReencodeGroup depth n bs s ≡ Fine) where
   -- what begins with the template's block of channel c
   abbrev r : ℕ → List ℕ
-  r c = rest depth bs c
+  r c = fromBlock depth bs c
 
   -- the active samples of the channels
   abbrev chans : List (List ℤ)
@@ -110,60 +110,60 @@ module _ (depth n : ℕ) (bs : List ℕ) (s : List ℤ) (fine : checkNewGroup de
 
   -- ---- what passed
   pub head-ok : 12 ≤ length bs
-  unfolding checkNewGroup
+  unfolding checkReencodeGroup
   head-ok = ltb-false (length bs) 12 (passed _ _ (first-fine _ _ fine))
 
   pub stereo-ok : (midBit bs && not (eqb n 2)) ≡ false
-  unfolding checkNewGroup
+  unfolding checkReencodeGroup
   stereo-ok = passed _ _ (first-fine _ _ (others-fine _ _ fine))
 
-  pub parity-ok : (midBit bs && not (parity (plain n s))) ≡ false
-  unfolding checkNewGroup
+  pub parity-ok : (midBit bs && not (parity (unwoven n s))) ≡ false
+  unfolding checkReencodeGroup
   parity-ok = passed _ _ (first-fine _ _ (others-fine _ _ (others-fine _ _ fine)))
 
   pub two-ok : midBit bs ≡ true → n ≡ 2
   two-ok m = eqb-true n 2 (not-false _ (subst (λ (b : Bool). (b && not (eqb n 2)) ≡ false) m stereo-ok))
 
-  pub even-ok : midBit bs ≡ true → parity (plain n s) ≡ true
-  even-ok m = not-false _ (subst (λ (b : Bool). (b && not (parity (plain n s))) ≡ false) m parity-ok)
+  pub even-ok : midBit bs ≡ true → parity (unwoven n s) ≡ true
+  even-ok m = not-false _ (subst (λ (b : Bool). (b && not (parity (unwoven n s))) ≡ false) m parity-ok)
 
   pub blocks-ok : (c : ℕ) → c < n → Template depth (r c) (getD chans c [])
-  unfolding checkNewGroup
+  unfolding checkReencodeGroup
   blocks-ok c q =
       template-ok depth (r c) (getD chans c [])
-      (order-fine (λ c. checkNewBlock depth (r c) (getD chans c [])) c n q (first-fine _ _ (others-fine _ _ (others-fine _ _ (others-fine _ _ fine)))))
+      (order-fine (λ c. checkReencodeBlock depth (r c) (getD chans c [])) c n q (first-fine _ _ (others-fine _ _ (others-fine _ _ (others-fine _ _ fine)))))
 
   pub none-left : length (r n) ≡ 0
-  unfolding checkNewGroup
+  unfolding checkReencodeGroup
   none-left = eqb-true (length (r n)) 0 (not-false _ (passed _ _ (others-fine _ _ (others-fine _ _ (others-fine _ _ (others-fine _ _ fine))))))
 
   -- ---- the active samples
-  pub chans-plain : midBit bs ≡ false → chans ≡ plain n s
+  pub chans-plain : midBit bs ≡ false → chans ≡ unwoven n s
   unfolding activeIn
-  chans-plain = ap (λ (t : Bool). cond t (midSide (plain n s)) (plain n s))
+  chans-plain = ap (λ (t : Bool). cond t (midSide (unwoven n s)) (unwoven n s))
 
-  pub chans-both : midBit bs ≡ true → chans ≡ midSide (plain n s)
+  pub chans-both : midBit bs ≡ true → chans ≡ midSide (unwoven n s)
   unfolding activeIn
-  chans-both = ap (λ (t : Bool). cond t (midSide (plain n s)) (plain n s))
+  chans-both = ap (λ (t : Bool). cond t (midSide (unwoven n s)) (unwoven n s))
 
   -- of any k frames z they are k a channel
   pub active-long : (k : ℕ) → 1 ≤ n → (z : List ℤ) → length z ≡ n * k → (c : ℕ) → c < n → length (getD (activeIn n bs z) c []) ≡ k
   unfolding activeIn
   active-long k some z l = by (midBit bs) refl
     where
-      each : (c : ℕ) → c < n → length (getD (plain n z) c []) ≡ k
+      each : (c : ℕ) → c < n → length (getD (unwoven n z) c []) ≡ k
       each = plain-long n k some z l
 
-      by : (t : Bool) → midBit bs ≡ t → (c : ℕ) → c < n → length (getD (cond t (midSide (plain n z)) (plain n z)) c []) ≡ k
+      by : (t : Bool) → midBit bs ≡ t → (c : ℕ) → c < n → length (getD (cond t (midSide (unwoven n z)) (unwoven n z)) c []) ≡ k
       by false m c q = each c q
-      by true m c q = both-long (plain n z) k (λ d p. each d (omega (arith, two-ok m))) c (omega (arith, two-ok m))
+      by true m c q = both-long (unwoven n z) k (λ d p. each d (omega (arith, two-ok m))) c (omega (arith, two-ok m))
 
   -- ---- the new blocks are as long as the template's
   abbrev B : ℕ → List ℕ
-  B c = newBlock depth (r c) (getD chans c [])
+  B c = reencodedBlock depth (r c) (getD chans c [])
 
   length-so-far : (c : ℕ) → c ≤ n → length (joined B c) + length (r c) ≡ length bs
-  unfolding joined rest
+  unfolding joined fromBlock
   length-so-far zero q = omega arith
   length-so-far (suc c) q =
       let i = length-so-far c (omega arith) in
@@ -172,6 +172,6 @@ module _ (depth n : ℕ) (bs : List ℕ) (s : List ℤ) (fine : checkNewGroup de
       let z = b .sized in
       omega (arith, length-append (joined B c) (B c), length-drop (sizeOf depth (r c)) (r c))
 
-  pub new-group-length : length (newGroup depth n bs s) ≡ length bs
-  unfolding newGroup
+  pub new-group-length : length (reencodedGroup depth n bs s) ≡ length bs
+  unfolding reencodedGroup
   new-group-length = omega (arith, length-so-far n (omega arith), none-left)

@@ -12,34 +12,34 @@ use Rattle.format.specs.Numbers.{holds}
 use Rattle.format.specs.Packed.{coding, widthOf, isBeyond}
 use Rattle.format.specs.declared.packed.Coding.{Coding}
 use Rattle.format.specs.declared.packed.Coding.the-variants.{Differences, Raw, Beyond}
-use Rattle.format.specs.Encoding.{least, width}
+use Rattle.format.specs.Encoding.{leastFrom, leastWidth}
 use Rattle.laws.proofs.Tests.{never}
 
-least-holds : (n b : ℕ) (ds : List ℤ) → least n b ds < b + n → every (holds (least n b ds)) ds ≡ true
-unfolding least
+least-holds : (n b : ℕ) (ds : List ℤ) → leastFrom n b ds < b + n → every (holds (leastFrom n b ds)) ds ≡ true
+unfolding leastFrom
 least-holds zero b ds h = absurd (omega arith)
 least-holds (suc n) b ds h = by (every (holds b) ds) refl (least-holds n (b + 1) ds) h
   where
-    by : (t : Bool) → every (holds b) ds ≡ t → (least n (b + 1) ds < b + 1 + n → every (holds (least n (b + 1) ds)) ds ≡ true)
-        → cond t b (least n (b + 1) ds) < b + suc n → every (holds (cond t b (least n (b + 1) ds))) ds ≡ true
+    by : (t : Bool) → every (holds b) ds ≡ t → (leastFrom n (b + 1) ds < b + 1 + n → every (holds (leastFrom n (b + 1) ds)) ds ≡ true)
+        → cond t b (leastFrom n (b + 1) ds) < b + suc n → every (holds (cond t b (leastFrom n (b + 1) ds))) ds ≡ true
     by true e i l = e
     by false e i l = i (omega arith)
 
-least-low : (n b : ℕ) (ds : List ℤ) → b ≤ least n b ds
-unfolding least
+least-low : (n b : ℕ) (ds : List ℤ) → b ≤ leastFrom n b ds
+unfolding leastFrom
 least-low zero b ds = omega arith
 least-low (suc n) b ds = by (every (holds b) ds) (least-low n (b + 1) ds)
   where
-    by : (t : Bool) → b + 1 ≤ least n (b + 1) ds → b ≤ cond t b (least n (b + 1) ds)
+    by : (t : Bool) → b + 1 ≤ leastFrom n (b + 1) ds → b ≤ cond t b (leastFrom n (b + 1) ds)
     by true i = omega arith
     by false i = omega arith
 
-pub width-low : (ds : List ℤ) → 2 ≤ width ds
-unfolding width
+pub width-low : (ds : List ℤ) → 2 ≤ leastWidth ds
+unfolding leastWidth
 width-low ds = least-low 30 2 ds
 
-pub width-every : (ds : List ℤ) → width ds < 32 → every (holds (width ds)) ds ≡ true
-unfolding width
+pub width-every : (ds : List ℤ) → leastWidth ds < 32 → every (holds (leastWidth ds)) ds ≡ true
+unfolding leastWidth
 width-every ds h = least-holds 30 2 ds h
 
 -- ---- a width is the depth, or from 1 to 32

@@ -1,5 +1,5 @@
 -- Signed numbers and their 32 bits; sums and differences wrapped at 32 bits.
-use mathlib.Core.Path.{_≡_, refl, sym, ap, ap₂, _∙_}
+use mathlib.Core.Path.{_≡_, refl, sym, ap, ap₂, _∙_, subst}
 use mathlib.Core.Bool.{Bool, true, false, cond}
 use Prim.Native.Nat.{ℕ, zero, suc, _+_, _-_, _%_, _^_, _<_}
 use native.Mathlib.Omega.{arith}
@@ -11,9 +11,10 @@ use mir.ValLaws.{toZ-ofZ, ofZ-toZ, toZ-fits}
 use borrow.Author.Tests.{ltb-true, ltb-false}
 use mathlib.Core.List.{List, [], _∷_}
 use lib.ListN.{getD, take, length}
-use Rattle.format.specs.Numbers.{low32, wrap32, plus, minus}
+use Rattle.format.specs.Numbers.{value, low32, wrap32, plus, minus}
 use Rattle.format.specs.Packed.{rebuilt}
-use Rattle.format.specs.Encoding.{differences, head0}
+use Rattle.format.specs.Encoding.{differences, firstValue}
+use Rattle.laws.proofs.Signs.{value-is}
 
 -- the bits of a sum and of a difference are those of the operands, added and subtracted modulo 2 ^ 32
 module _ (m n : ℕ) (f : m < 2 ^ 32) (g : n < 2 ^ 32) where
@@ -39,11 +40,22 @@ pub low-fits : (z : ℤ) → SFits w32 z → low32 z ≡ ofZ w32 z
 low-fits (pos n) f = omega (arith, f .sfits)
 low-fits (negsuc n) f = omega (arith, f .sfits)
 
+-- 32 bits mean what a word of the machine means
+pub word-is : (c : ℕ) → c < 2 ^ 32 → value 32 c ≡ toZ w32 c
+word-is c h = value-is 32 c h
+
+pub wrap-word : (z : ℤ) → wrap32 z ≡ toZ w32 (low32 z)
+wrap-word z = word-is (low32 z) (low-lt z)
+
 pub wrap-fits : (z : ℤ) → SFits w32 z → wrap32 z ≡ z
-wrap-fits z f = ap (toZ w32) (low-fits z f) ∙ toZ-ofZ w32 z f
+wrap-fits z f = wrap-word z ∙ ap (toZ w32) (low-fits z f) ∙ toZ-ofZ w32 z f
 
 pub wrap-is : (z : ℤ) → SFits w32 (wrap32 z)
-wrap-is z = toZ-fits w32 (low32 z) (record { fits = low-lt z })
+wrap-is z = subst (SFits w32) (sym (wrap-word z)) (toZ-fits w32 (low32 z) (record { fits = low-lt z }))
+
+-- the bits of a wrapped number
+pub wrap-bits : (z : ℤ) → ofZ w32 (wrap32 z) ≡ low32 z
+wrap-bits z = ap (ofZ w32) (wrap-word z) ∙ ofZ-toZ w32 _ (record { fits = low-lt z })
 
 pub sub-bits-back : (a b : ℤ) → SFits w32 a → SFits w32 b → (ofZ w32 b + low32 (a -ℤ b)) % 2 ^ 32 ≡ ofZ w32 a
 sub-bits-back (pos m) (pos zero) f g = omega (arith, f .sfits, g .sfits)
@@ -70,8 +82,8 @@ sub-bits a b r f g h e =
 pub difference-back : (a b : ℤ) → SFits w32 a → SFits w32 b → wrap32 (b +ℤ wrap32 (a -ℤ b)) ≡ a
 difference-back a b f g =
     let d = wrap32 (a -ℤ b) in
-    let e : ofZ w32 d ≡ low32 (a -ℤ b) = ofZ-toZ w32 _ (record { fits = low-lt (a -ℤ b) }) in
-    ap (toZ w32) (sym (rw e at (add-bits b d g (wrap-is (a -ℤ b)))) ∙ sub-bits-back a b f g) ∙ toZ-ofZ w32 a f
+    let e : ofZ w32 d ≡ low32 (a -ℤ b) = wrap-bits (a -ℤ b) in
+    wrap-word (b +ℤ d) ∙ ap (toZ w32) (sym (rw e at (add-bits b d g (wrap-is (a -ℤ b)))) ∙ sub-bits-back a b f g) ∙ toZ-ofZ w32 a f
 
 -- samples rebuilt from their differences
 abbrev pub Fit : List ℤ → Type 0
@@ -80,15 +92,15 @@ Fit xs = (i : ℕ) → SFits w32 (getD xs i (pos 0))
 pub zero-fits : SFits w32 (pos 0)
 zero-fits = record { sfits = omega arith }
 
-pub rebuilt-back : (xs : List ℤ) → Fit xs → rebuilt (head0 xs) (differences xs) ≡ xs
-unfolding rebuilt differences head0
+pub rebuilt-back : (xs : List ℤ) → Fit xs → rebuilt (firstValue xs) (differences xs) ≡ xs
+unfolding rebuilt differences firstValue
 rebuilt-back [] f = refl
 rebuilt-back (x ∷ []) f = refl
 rebuilt-back (x ∷ y ∷ xs) f = ap (λ (l : List ℤ). x ∷ l) (ap (λ (z : ℤ). rebuilt z (differences (y ∷ xs))) (difference-back y x (f 1) (f 0)) ∙ rebuilt-back (y ∷ xs) (λ i. f (suc i)))
 
 plus-inj : (x d e : ℤ) → SFits w32 x → SFits w32 d → SFits w32 e → plus x d ≡ plus x e → d ≡ e
 plus-inj x d e fx fd fe q =
-    let a : low32 (x +ℤ d) ≡ low32 (x +ℤ e) = sym (ofZ-toZ w32 _ (record { fits = low-lt (x +ℤ d) })) ∙ ap (ofZ w32) q ∙ ofZ-toZ w32 _ (record { fits = low-lt (x +ℤ e) }) in
+    let a : low32 (x +ℤ d) ≡ low32 (x +ℤ e) = sym (wrap-bits (x +ℤ d)) ∙ ap (ofZ w32) q ∙ wrap-bits (x +ℤ e) in
     let b : ofZ w32 d ≡ ofZ w32 e = same-low (ofZ w32 x) (ofZ w32 d) (ofZ w32 e) (of-lt x fx) (of-lt d fd) (of-lt e fe) (add-bits x d fx fd ∙ a ∙ sym (add-bits x e fx fe)) in
     sym (toZ-ofZ w32 d fd) ∙ ap (toZ w32) b ∙ toZ-ofZ w32 e fe
 

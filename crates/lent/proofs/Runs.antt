@@ -37,11 +37,11 @@ from-more : (i n : ℕ) (s : List ℤ) → i + n < length s → from i (n + 1) s
 unfolding from
 from-more i n s h = rw (add-one n, take-suc (drop i s) n (pos 0) (omega (arith, length-drop i s)), getD-drop i s n (pos 0))
 
-pub strided-turn : (s run : List ℤ) (first step c skip k : ℕ) {v : ℤ} → skip + k < length run → v ≡ getD run (skip + k) (pos 0)
-    → set (strided s (first * step + c) step (from skip k run)) ((first + k) * step + c) v ≡ strided s (first * step + c) step (from skip (k + 1) run)
-strided-turn s run first step c skip k h e =
+pub strided-turn : (s run : List ℤ) (first step c skip k : ℕ) {i : ℕ} {v : ℤ} → skip + k < length run → i ≡ (first + k) * step + c → v ≡ getD run (skip + k) (pos 0)
+    → set (strided s (first * step + c) step (from skip k run)) i v ≡ strided s (first * step + c) step (from skip (k + 1) run)
+strided-turn s run first step c skip k {i} h p e =
     let l : length (from skip k run) ≡ k = length-from skip k run (omega arith) in
-    let q : (first + k) * step + c ≡ first * step + c + length (from skip k run) * step = rw l (omega (arith, add-mul first k step)) in
+    let q : i ≡ first * step + c + length (from skip k run) * step = rw l (omega (arith, add-mul first k step)) in
     rw (e, from-more skip k run h, strided-more, q)
 
 -- ---- two channels
@@ -61,15 +61,15 @@ unfolding wovenFrom joined
 woven-more skip k a e = rw add-one (rw (two (λ (ch : List ℤ). getD ch (skip + k) (pos 0)) a e, append-assoc))
 
 -- two stores at the end of what was put are one frame more
-pub woven-turn : (s : List ℤ) (a : List (List ℤ)) (first skip k : ℕ) {x y : ℤ} → length a ≡ 2 → (first + k) * 2 + 2 ≤ length s
-    → x ≡ getD (getD a 0 []) (skip + k) (pos 0) → y ≡ getD (getD a 1 []) (skip + k) (pos 0)
-    → set (set (placed (first * 2) (wovenFrom skip k a) s) ((first + k) * 2) x) ((first + k) * 2 + 1) y ≡ placed (first * 2) (wovenFrom skip (k + 1) a) s
-woven-turn s a first skip k {x} {y} g h e f =
+pub woven-turn : (s : List ℤ) (a : List (List ℤ)) (first skip k : ℕ) {i j : ℕ} {x y : ℤ} → length a ≡ 2 → (first + k) * 2 + 2 ≤ length s
+    → i ≡ (first + k) * 2 + 0 → j ≡ (first + k) * 2 + 1 → x ≡ getD (getD a 0 []) (skip + k) (pos 0) → y ≡ getD (getD a 1 []) (skip + k) (pos 0)
+    → set (set (placed (first * 2) (wovenFrom skip k a) s) i x) j y ≡ placed (first * 2) (wovenFrom skip (k + 1) a) s
+woven-turn s a first skip k {i} {j} g h u v e f =
     let W = wovenFrom skip k a in
     let X = getD (getD a 0 []) (skip + k) (pos 0) in
     let Y = getD (getD a 1 []) (skip + k) (pos 0) in
     let l : length W ≡ 2 * k = length-woven skip k a ∙ ap (λ (n : ℕ). n * k) g in
     let m : length (W ++ (X ∷ [])) ≡ length W + 1 = length-append W (X ∷ []) in
-    let p : (first + k) * 2 ≡ first * 2 + length W = omega arith in
-    let q : (first + k) * 2 + 1 ≡ first * 2 + length (W ++ (X ∷ [])) = omega arith in
+    let p : i ≡ first * 2 + length W = omega arith in
+    let q : j ≡ first * 2 + length (W ++ (X ∷ [])) = omega arith in
     rw (e, f, q, p, woven-more skip k a g, placed-more (first * 2) (W ++ (X ∷ [])) s Y (omega arith), placed-more (first * 2) W s X (omega arith))

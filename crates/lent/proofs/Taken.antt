@@ -17,7 +17,7 @@ use mir.Val.{toZ, ofZ, SFits}
 use mir.ValLaws.{toZ-ofZ}
 use Rattle.format.specs.Lists.{tab, from, every}
 use Rattle.format.specs.Units.{lowest, highest, within}
-use Rattle.format.specs.Encoding.{channel, padded, split}
+use Rattle.format.specs.Encoding.{channel, padded, paddedChannels}
 use Rattle.format.specs.declared.units.Depth.{Depth}
 use Rattle.laws.proofs.Parts.{length-from}
 use Rattle.laws.proofs.Channels.{channel-length, channel-at}
@@ -87,6 +87,6 @@ module _ (ch c first n : ℕ) (s run : List ℤ) (h : c < ch) (room : (first + n
       getD-take n run i (pos 0) q ∙ each i q ∙ sym (channel-at ch n some frames frames-long c i q ∙ frames-at i q))
 
 -- two channels, padded
-pub split-taken : (s : List ℤ) {l r : List ℤ} {a : List (List ℤ)} → l ≡ channel 2 s 0 → r ≡ channel 2 s 1 → a ≡ padded l ∷ padded r ∷ [] → a ≡ split 2 s
-unfolding split tab
+pub split-taken : (s : List ℤ) {l r : List ℤ} {a : List (List ℤ)} → l ≡ channel 2 s 0 → r ≡ channel 2 s 1 → a ≡ padded l ∷ padded r ∷ [] → a ≡ paddedChannels 2 s
+unfolding paddedChannels tab
 split-taken s p q e = e ∙ ap₂ (λ (x y : List ℤ). padded x ∷ padded y ∷ []) p q

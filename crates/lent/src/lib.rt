@@ -1,13 +1,14 @@
 // Samples lent as numbers, or as bytes, four to a sample: only `count`, `put_sample` and `sample_at` look at which.
 mod taking;
 
+use format::Samples;
 pub use taking::all_within;
 pub use taking::channel;
 pub use taking::sample_at;
 pub use taking::split;
 use write_bytes::put_u32_le;
 ghost use mathlib.Core.Path.{_≡_};
-ghost use Prim.Native.Nat.{_+_, _*_, _<_, _≤_};
+ghost use Prim.Native.Nat.{_+_, _*_, _^_, _<_, _≤_};
 ghost use lib.ListN.{length, set};
 ghost use Rattle.lent.specs.Lent.{lentOf, restOf, placed, ChannelFits, channelPut, wovenFrom};
 
@@ -17,13 +18,21 @@ pub enum Container {
 }
 
 // How many samples are lent.
-pub fn count(which: Container, words: &[i32], bytes: &[u8]) -> usize
-    ensures { λ r. ⌜ r ≡ length (lentOf which (now (words .entry)) (now (bytes .entry))) ⌝ }
+pub fn count(which: Container, words: &[i32], bytes: &[u8]) -> Samples
+    ensures { λ r. ⌜ r .0 ≡ length (lentOf which (now (words .entry)) (now (bytes .entry))) ⌝ }
 {
     match which {
-        Container::Words => words.len(),
-        Container::Bytes => bytes.len() / 4,
+        Container::Words => Samples(words.len() as u64),
+        Container::Bytes => Samples(bytes.len() as u64 / 4),
     }
+}
+
+// Frames become sample indexes here: where channel c of a frame lies.
+fn place(frame: usize, channels: usize, c: usize) -> usize
+    requires { ⌜ frame * channels + c < 2 ^ 64 ⌝ }
+    ensures { λ r. ⌜ r ≡ frame * channels + c ⌝ }
+{
+    frame * channels + c
 }
 
 pub fn put_sample(which: Container, words: &mut [i32], bytes: &mut [u8], i: usize, v: i32)
@@ -60,7 +69,7 @@ fn put_strided(
             which,
             words,
             bytes,
-            (first + k) * channels + c,
+            place(first + k, channels, c),
             run[skip + k],
         );
     }
@@ -104,7 +113,7 @@ pub fn interleave(
     ensures keeps { λ _. ⌜ restOf which (now (words .exit)) (now (bytes .exit)) ≡ restOf which (now (words .entry)) (now (bytes .entry)) ⌝ }
 {
     for k in 0..n {
-        put_sample(which, words, bytes, (first + k) * 2, a[0][skip + k]);
-        put_sample(which, words, bytes, (first + k) * 2 + 1, a[1][skip + k]);
+        put_sample(which, words, bytes, place(first + k, 2, 0), a[0][skip + k]);
+        put_sample(which, words, bytes, place(first + k, 2, 1), a[1][skip + k]);
     }
 }

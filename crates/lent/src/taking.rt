@@ -1,6 +1,7 @@
 // Samples taken from what is lent: their range, and channels apart, padded to 512.
 use crate::Container;
 use crate::count;
+use crate::place;
 use format::Depth;
 use read_bytes::read_u32_le;
 ghost use mathlib.Core.Path.{_≡_};
@@ -12,7 +13,7 @@ ghost use lib.IntN.{pos};
 ghost use lib.Signed.{leZ};
 ghost use Rattle.format.specs.Lists.{every};
 ghost use Rattle.format.specs.Units.{within};
-ghost use Rattle.format.specs.Encoding.{channel, padded, split};
+ghost use Rattle.format.specs.Encoding.{channel, padded, paddedChannels};
 ghost use Rattle.lent.specs.Lent.{lentOf, framesFrom};
 
 pub fn sample_at(which: Container, words: &[i32], bytes: &[u8], i: usize) -> i32
@@ -41,7 +42,7 @@ pub fn all_within(which: Container, words: &[i32], bytes: &[u8], depth: Depth) -
     let lowest = depth.lowest();
     let highest = depth.highest();
     let mut ok = true;
-    for i in 0..count(which, words, bytes) {
+    for i in 0..count(which, words, bytes).0 as usize {
         let o = inside(sample_at(which, words, bytes, i), lowest, highest);
         ok = ok & o;
     }
@@ -63,7 +64,7 @@ fn take_channel(
 {
     let mut run = [0i32; 512];
     for k in 0..n {
-        run[k] = sample_at(which, words, bytes, (first + k) * channels + c);
+        run[k] = sample_at(which, words, bytes, place(first + k, channels, c));
     }
     run
 }
@@ -116,7 +117,7 @@ pub fn split(
     n: usize,
 ) -> [[i32; 512]; 2]
     requires { ⌜ (0 < n) × (n ≤ 512) × ((first + n) * 2 ≤ length (lentOf which (now words) (now bytes))) ⌝ }
-    ensures { λ r. ⌜ r ≡ split 2 (framesFrom 2 first n (lentOf which (now (words .entry)) (now (bytes .entry)))) ⌝ }
+    ensures { λ r. ⌜ r ≡ paddedChannels 2 (framesFrom 2 first n (lentOf which (now (words .entry)) (now (bytes .entry)))) ⌝ }
 {
     let l = take_channel(which, words, bytes, first, n, 2, 0);
     let r = take_channel(which, words, bytes, first, n, 2, 1);

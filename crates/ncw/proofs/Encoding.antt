@@ -5,7 +5,7 @@ use mathlib.Core.List.{List}
 use lib.ListN.{length}
 use borrow.Author.Tests.{lt-ltb, le-ltb, ne-eqb}
 use Rattle.format.specs.Refusals.{refuse, _then_}
-use Rattle.format.specs.Encoding.{fileOf, checkEncodeInto, encodeOf, encodeInto}
+use Rattle.format.specs.Encoding.{encodedFile, checkEncodeInto, encodeOf, encodeInto}
 use Rattle.format.specs.Boundary.{samplesFrom, isMode, modeOf, checkMode, result, checkHostEncode, hostEncode, hostEncodeInto}
 use Rattle.format.specs.declared.refusals.Refusal.{Refusal}
 use Rattle.format.specs.declared.refusals.Refusal.the-variants.{UnknownMode, SampleBytes}
@@ -33,11 +33,11 @@ module _ (m : ℕ) where
 module _ (b : List ℕ) (p : PcmSpec) (m : ℕ) where
   told-no : (room : ℕ) (r : Refusal) (x : ℕ) → checkHostEncode b p m room ≡ No r → x ≡ result (Refused r) → x ≡ hostEncode b p m room
   unfolding hostEncode
-  told-no room r x e t = refusal-told (checkHostEncode b p m room) r e (Wrote (length (fileOf p (modeOf m) (samplesFrom b)))) x t
+  told-no room r x e t = refusal-told (checkHostEncode b p m room) r e (Wrote (length (encodedFile p (modeOf m) (samplesFrom b)))) x t
 
   keeps : (out : List ℕ) (r : Refusal) → checkHostEncode b p m (length out) ≡ No r → out ≡ hostEncodeInto b p m out
   unfolding hostEncodeInto
-  keeps out r e = refusal-keeps (checkHostEncode b p m (length out)) r e (fileOf p (modeOf m) (samplesFrom b)) out
+  keeps out r e = refusal-keeps (checkHostEncode b p m (length out)) r e (encodedFile p (modeOf m) (samplesFrom b)) out
 
   module _ (other : 3 ≤ m) where
     mode-no : (room : ℕ) → checkHostEncode b p m room ≡ No UnknownMode

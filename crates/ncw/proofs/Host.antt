@@ -31,7 +31,7 @@ told-decode s b a r e p = e ∙ ap (λ (x : Answer). result (x .outcome)) (p ∙
 decoded-room : (s : List ℕ) (room : ℕ) → (checkDecode s then checkRoom s room) ≡ Fine → length (decodedOf s) ≤ room
 unfolding checkRoom
 decoded-room s room fine =
-    let fits = has-room (checkDecode s) room (fieldsOf s .frames * fieldsOf s .channels) OutputTooShort fine in
+    let fits = has-room (checkDecode s) room (fieldsOf s .frames .0 * fieldsOf s .channels) OutputTooShort fine in
     omega (arith, decode-count s (first-fine _ _ fine))
 
 pub put-bytes :

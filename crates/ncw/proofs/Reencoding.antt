@@ -4,7 +4,7 @@ use mathlib.Core.Path.{_≡_, refl, ap, _∙_}
 use mathlib.Core.List.{List}
 use lib.ListN.{length}
 use Rattle.format.specs.Refusals.{_then_}
-use Rattle.format.specs.Reencoding.{refileOf, checkReencodeInto, reencodeOf, reencodeInto}
+use Rattle.format.specs.Reencoding.{reencodedFile, checkReencodeInto, reencodeOf, reencodeInto}
 use Rattle.format.specs.Boundary.{samplesFrom, result, checkHostReencode, hostReencode, hostReencodeInto}
 use Rattle.format.specs.declared.refusals.Refusal.the-variants.{SampleBytes}
 use Rattle.format.specs.declared.refusals.Checked.the-variants.{No}
@@ -25,7 +25,7 @@ module _ (b : List ℕ) (p : PcmSpec) (t : List ℕ) where
 
     pub bytes-keep : (out : List ℕ) → out ≡ hostReencodeInto b p t out
     unfolding hostReencodeInto
-    bytes-keep out = refusal-keeps (checkHostReencode b p t (length out)) SampleBytes (bytes-no (length out)) (refileOf (samplesFrom b) t) out
+    bytes-keep out = refusal-keeps (checkHostReencode b p t (length out)) SampleBytes (bytes-no (length out)) (reencodedFile (samplesFrom b) t) out
 
   module _ (whole : length b % 4 ≡ 0) where
     passes : (room : ℕ) → checkHostReencode b p t room ≡ checkReencodeInto p (samplesFrom b) t room

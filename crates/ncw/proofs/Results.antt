@@ -15,7 +15,7 @@ use Rattle.format.specs.Refusals.{number, _then_}
 use Rattle.format.specs.Answers.{answered}
 use Rattle.format.specs.Opening.{checkOpen, headerOf, openOf}
 use Rattle.format.specs.Decoding.{checkDecode, decodedCount, checkRoom, decodeOf}
-use Rattle.format.specs.Encoding.{fileOf, checkEncodeInto, encodeOf}
+use Rattle.format.specs.Encoding.{encodedFile, checkEncodeInto, encodeOf}
 use Rattle.format.specs.Reencoding.{checkReencodeInto, reencodeOf}
 use Rattle.format.specs.Boundary.{result}
 use Rattle.format.specs.declared.units.Frames.{Frames}
@@ -73,7 +73,7 @@ decode-reads-few s room a byte e n p = reads-few (checkDecode s then checkRoom s
     few : Read (decodedCount s) ≡ Read n → 4 * n .0 < 2 ^ 64
     few q =
         let e : decodedCount s ≡ n = cc in
-        omega (arith, counts-lt (fieldsOf s .frames) (fieldsOf s .channels) (number-lt 16 4 s byte) (number-lt 8 2 s byte), ap (λ (m : Samples). m .0) e)
+        omega (arith, counts-lt (fieldsOf s .frames .0) (fieldsOf s .channels) (number-lt 16 4 s byte) (number-lt 8 2 s byte), ap (λ (m : Samples). m .0) e)
 
 -- a writer answers what it wrote
 wrote-reads-none : (k : Checked) (w : ℕ) (a : Answer) → a ≡ answered k (Wrote w) → (n : Samples) → a .outcome ≡ Read n → 4 * n .0 < 2 ^ 64
@@ -82,7 +82,7 @@ wrote-reads-none k w a e n q = reads-few k (Wrote w) n (λ r. let none : true �
 pub encode-reads-none :
     (p : PcmSpec) (mode : StereoMode) (s : List ℤ) (room : ℕ) (a : Answer) → a ≡ encodeOf p mode s room → (n : Samples) → a .outcome ≡ Read n → 4 * n .0 < 2 ^ 64
 unfolding encodeOf
-encode-reads-none p mode s room = wrote-reads-none (checkEncodeInto p mode s room) (length (fileOf p mode s))
+encode-reads-none p mode s room = wrote-reads-none (checkEncodeInto p mode s room) (length (encodedFile p mode s))
 
 pub reencode-reads-none :
     (p : PcmSpec) (s : List ℤ) (t : List ℕ) (room : ℕ) (a : Answer) → a ≡ reencodeOf p s t room → (n : Samples) → a .outcome ≡ Read n → 4 * n .0 < 2 ^ 64

@@ -4,7 +4,7 @@ use mathlib.Core.Path.{_≡_, refl, sym, ap, _∙_}
 use mathlib.Core.Bool.{Bool, true, false, cond}
 use mathlib.Core.List.{List, [], _∷_, _++_}
 use native.Mathlib.Omega.{arith}
-use lib.IntN.{ℤ, pos, negsuc}
+use lib.IntN.{ℤ, pos, negℤ}
 use lib.ListN.{length, getD, take, drop}
 use lib.Seq.{sets}
 use lib.Dec.{ltb}
@@ -19,10 +19,10 @@ use Rattle.format.specs.Packed.{packing}
 use Rattle.format.specs.Blocks.{blockMark}
 use Rattle.format.specs.Refusals.{refuse}
 use Rattle.format.specs.Answers.{filled}
-use Rattle.format.specs.Encoding.{differences, width, head0, block, blockOf}
+use Rattle.format.specs.Encoding.{differences, leastWidth, firstValue, blockBytes, encodedBlock}
 use Rattle.format.specs.declared.refusals.Checked.{Checked}
 use Rattle.format.specs.declared.refusals.Checked.the-variants.{Fine}
-use Rattle.laws.proofs.Signs.{length-packing}
+use Rattle.laws.proofs.Signs.{minus-is, length-packing}
 use Rattle.laws.proofs.Widths.{width-low, width-every}
 use Rattle.laws.proofs.Over.{over-sets, lent-behind}
 use Rattle.laws.proofs.Written.{widthIn, block-size}
@@ -68,24 +68,24 @@ module _ (base : ℤ) (bits flags b : ℕ) (vs : List ℤ) (xs d ys : List ℕ) 
 -- ---- the block
 
 -- the first value
-pub head-is : (xs : List ℤ) → getD xs 0 (pos 0) ≡ head0 xs
-unfolding head0
+pub head-is : (xs : List ℤ) → getD xs 0 (pos 0) ≡ firstValue xs
+unfolding firstValue
 head-is [] = refl
 head-is (x ∷ xs) = refl
 
 -- `narrow` of differences, `wide` of the samples themselves
 
-block-is : (base bits : ℤ) (flags : ℕ) (run : List ℕ) → block base bits flags run ≡ front base (codeOf 16 bits) flags ++ run
-unfolding block front blockMark le digits
+block-is : (base bits : ℤ) (flags : ℕ) (run : List ℕ) → blockBytes base bits flags run ≡ front base (codeOf 16 bits) flags ++ run
+unfolding blockBytes front blockMark le digits
 block-is base bits flags run = refl
 
-module _ (depth flags w : ℕ) (xs ds : List ℤ) (says : ds ≡ differences xs) (is : w ≡ width ds) where
+module _ (depth flags w : ℕ) (xs ds : List ℤ) (says : ds ≡ differences xs) (is : w ≡ leastWidth ds) where
   chosen : (t : Bool) → ltb w depth ≡ t
-      → blockOf depth flags xs ≡ cond t (block (head0 xs) (pos w) flags (packing w ds)) (block (head0 xs) (negsuc (depth - 1)) flags (packing depth xs))
-  unfolding blockOf
+      → encodedBlock depth flags xs ≡ cond t (blockBytes (firstValue xs) (pos w) flags (packing w ds)) (blockBytes (firstValue xs) (negℤ (pos depth)) flags (packing depth xs))
+  unfolding encodedBlock
   chosen t e = rw (← e, is, says)
 
-  sized : (t : Bool) → ltb w depth ≡ t → length (blockOf depth flags xs) ≡ 16 + 64 * cond t w depth
+  sized : (t : Bool) → ltb w depth ≡ t → length (encodedBlock depth flags xs) ≡ 16 + 64 * cond t w depth
   unfolding widthIn
   sized t e = block-size depth flags xs ∙ rw (← e, is, says)
 
@@ -93,35 +93,35 @@ module _ (depth flags w : ℕ) (xs ds : List ℤ) (says : ds ≡ differences xs)
   least-width = omega (arith, width-low ds)
 
   module _ (h : w < depth) where
-    pub narrow : blockOf depth flags xs ≡ front (head0 xs) w flags ++ packing w ds
-    narrow = chosen true (lt-ltb w depth h) ∙ block-is (head0 xs) (pos w) flags (packing w ds)
+    pub narrow : encodedBlock depth flags xs ≡ front (firstValue xs) w flags ++ packing w ds
+    narrow = chosen true (lt-ltb w depth h) ∙ block-is (firstValue xs) (pos w) flags (packing w ds)
 
-    pub narrow-size : length (blockOf depth flags xs) ≡ 16 + 64 * w
+    pub narrow-size : length (encodedBlock depth flags xs) ≡ 16 + 64 * w
     narrow-size = sized true (lt-ltb w depth h)
 
     pub narrow-holds : depth ≤ 32 → every (holds w) ds ≡ true
     narrow-holds u = rw is (width-every ds (omega arith))
 
   module _ (h : depth ≤ w) where
-    pub wide : 1 ≤ depth → blockOf depth flags xs ≡ front (head0 xs) (65536 - depth) flags ++ packing depth xs
+    pub wide : 1 ≤ depth → encodedBlock depth flags xs ≡ front (firstValue xs) (65536 - depth) flags ++ packing depth xs
     wide l =
-        let word : codeOf 16 (negsuc (depth - 1)) ≡ 65536 - depth = omega arith in
+        let word : codeOf 16 (negℤ (pos depth)) ≡ 65536 - depth = ap (codeOf 16) (minus-is depth l) ∙ omega arith in
         chosen false (le-ltb w depth h) ∙ rw (block-is, word)
 
-    pub wide-size : length (blockOf depth flags xs) ≡ 16 + 64 * depth
+    pub wide-size : length (encodedBlock depth flags xs) ≡ 16 + 64 * depth
     wide-size = sized false (le-ltb w depth h)
 
 -- what follows of either
 module _ (depth flags b : ℕ) (xs : List ℤ) where
-  module _ (size : length (blockOf depth flags xs) ≡ 16 + 64 * b) where
-    pub block-room : (n : ℕ) → length (blockOf depth flags xs) ≤ n → 16 + 64 * b ≤ n
+  module _ (size : length (encodedBlock depth flags xs) ≡ 16 + 64 * b) where
+    pub block-room : (n : ℕ) → length (encodedBlock depth flags xs) ≤ n → 16 + 64 * b ≤ n
     block-room n u = omega arith
 
-    pub block-answer : (r : ℕ) → r ≡ 16 + 64 * b → r ≡ length (blockOf depth flags xs)
+    pub block-answer : (r : ℕ) → r ≡ 16 + 64 * b → r ≡ length (encodedBlock depth flags xs)
     block-answer r e = omega arith
 
   -- the base as a local holds it
-  pub block-put : (bits : ℕ) (vs : List ℤ) (before after : List ℕ) → blockOf depth flags xs ≡ front (head0 xs) bits flags ++ packing b vs
+  pub block-put : (bits : ℕ) (vs : List ℤ) (before after : List ℕ) → encodedBlock depth flags xs ≡ front (firstValue xs) bits flags ++ packing b vs
       → SFits w32 (getD xs 0 (pos 0)) → after ≡ over (front (toZ w32 (ofZ w32 (getD xs 0 (pos 0)))) bits flags ++ packing b vs) before
-      → after ≡ over (blockOf depth flags xs) before
+      → after ≡ over (encodedBlock depth flags xs) before
   block-put bits vs before after q f e = e ∙ rw (toZ-ofZ w32 (getD xs 0 (pos 0)) f, head-is xs, q)

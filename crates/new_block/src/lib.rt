@@ -10,13 +10,13 @@ ghost use lib.ListN.{length};
 ghost use Rattle.format.specs.Lists.{over, every};
 ghost use Rattle.format.specs.Numbers.{holds};
 ghost use Rattle.format.specs.Packed.{packing};
-ghost use Rattle.format.specs.Encoding.{blockOf};
+ghost use Rattle.format.specs.Encoding.{encodedBlock};
 ghost use Rattle.new_block.specs.Front.{front};
 
 // The length of a block: at its width where that is under the depth, otherwise at the depth.
 pub fn block_size(xs: [i32; 512], depth: u16) -> usize
     requires { ⌜ depth ≤ 32 ⌝ }
-    ensures { λ n. ⌜ ((flags : ℕ) → n ≡ length (blockOf depth flags xs)) × (n ≤ 2064) ⌝ }
+    ensures { λ n. ⌜ ((flags : ℕ) → n ≡ length (encodedBlock depth flags xs)) × (n ≤ 2064) ⌝ }
 {
     let w = packing::width(packing::deltas(xs));
     let d = depth as u32;
@@ -56,8 +56,8 @@ fn put_block(
 
 // The block of 512 samples at the front of what is lent, and its length.
 pub fn channel_block(out: &mut [u8], xs: [i32; 512], depth: u16, flags: u16) -> usize
-    requires { ⌜ (1 ≤ depth) × (depth ≤ 32) × (every (holds depth) xs ≡ true) × (length (blockOf depth flags xs) ≤ length (now out)) ⌝ }
-    ensures { λ r. ⌜ (r ≡ length (blockOf depth flags xs)) × (now (out .exit) ≡ over (blockOf depth flags xs) (now (out .entry))) ⌝ }
+    requires { ⌜ (1 ≤ depth) × (depth ≤ 32) × (every (holds depth) xs ≡ true) × (length (encodedBlock depth flags xs) ≤ length (now out)) ⌝ }
+    ensures { λ r. ⌜ (r ≡ length (encodedBlock depth flags xs)) × (now (out .exit) ≡ over (encodedBlock depth flags xs) (now (out .entry))) ⌝ }
 {
     let ds = packing::deltas(xs);
     let w = packing::width(ds);

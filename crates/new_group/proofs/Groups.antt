@@ -11,7 +11,7 @@ use lib.Pow.{pow-pos}
 use borrow.Author.Tests.{ne-eqb}
 use Rattle.format.specs.Lists.{over, every}
 use Rattle.format.specs.Numbers.{holds}
-use Rattle.format.specs.Encoding.{channel, padded, split, blockOf, blocks, midSide, parity, takesMid, groupOf, isMidSide}
+use Rattle.format.specs.Encoding.{channel, padded, paddedChannels, encodedBlock, blocks, midSide, parity, takesMid, encodedGroup, isMidSide}
 use Rattle.format.specs.declared.settings.PcmSpec.{PcmSpec}
 use Rattle.format.specs.declared.settings.StereoMode.{StereoMode}
 use Rattle.format.specs.declared.settings.StereoMode.the-variants.{Auto, Direct, MidSide}
@@ -29,7 +29,7 @@ use Rattle.laws.proofs.Stereo.{parity-split}
 use Rattle.new_group.proofs.Blocks.{pair-count}
 
 -- ---- the lengths of two channels' blocks
-pub pair-size : (depth : ℕ) (a : List (List ℤ)) (x y : ℕ) → length a ≡ 2 → ((flags : ℕ) → x ≡ length (blockOf depth flags (getD a 0 []))) → ((flags : ℕ) → y ≡ length (blockOf depth flags (getD a 1 [])))
+pub pair-size : (depth : ℕ) (a : List (List ℤ)) (x y : ℕ) → length a ≡ 2 → ((flags : ℕ) → x ≡ length (encodedBlock depth flags (getD a 0 []))) → ((flags : ℕ) → y ≡ length (encodedBlock depth flags (getD a 1 [])))
     → (flags : ℕ) → x + y ≡ length (blocks depth flags a)
 pair-size depth a x y two f g flags = pair-count depth flags a two x y (f flags) (g flags)
 
@@ -51,11 +51,11 @@ module _ (depth : ℕ) (a : List (List ℤ)) (t : Bool) (even : t ≡ parity a) 
   unfolding autoTakes
   auto-not h = ap (λ (b : Bool). b && ltb (sizesOf depth a .«mid_side») (sizesOf depth a .direct)) (sym h ∙ even)
 
-takes-are : (mode : StereoMode) (depth : ℕ) (s : List ℤ) → takesOf mode depth (split 2 s) ≡ takesMid mode 2 depth s
+takes-are : (mode : StereoMode) (depth : ℕ) (s : List ℤ) → takesOf mode depth (paddedChannels 2 s) ≡ takesMid mode 2 depth s
 unfolding takesOf autoTakes takesMid
 takes-are Direct depth s = refl
 takes-are MidSide depth s = refl
-takes-are Auto depth s = ap (λ (b : Bool). b && ltb (length (blocks depth 1 (midSide (split 2 s)))) (length (blocks depth 0 (split 2 s)))) (parity-split s)
+takes-are Auto depth s = ap (λ (b : Bool). b && ltb (length (blocks depth 1 (midSide (paddedChannels 2 s)))) (length (blocks depth 0 (paddedChannels 2 s)))) (parity-split s)
 
 -- mid/side is taken only at equal parity, if MidSide comes only with it
 takes-even : (mode : StereoMode) (depth : ℕ) (a : List (List ℤ)) → (isMidSide mode ≡ true → parity a ≡ true) → takesOf mode depth a ≡ true → parity a ≡ true
@@ -97,8 +97,8 @@ module _ (p : PcmSpec) (mode : StereoMode) (first n : ℕ) (s : List ℤ) (w : W
   channel-holds c run is = rw is (holds-every depth _ (padded-holds C n (w .channels) frames long (w .most) depth c all-hold))
 
   -- other than two channels
-  pub group-other : (C ≡ 2 → ⊥) → blocks depth 0 (split C frames) ≡ groupOf p mode frames
-  unfolding groupOf
+  pub group-other : (C ≡ 2 → ⊥) → blocks depth 0 (paddedChannels C frames) ≡ encodedGroup p mode frames
+  unfolding encodedGroup
   group-other ne = rw (not-taken mode C depth frames ne (w .stereo))
 
   pub as-direct : Writable p Direct first n s
@@ -110,9 +110,9 @@ module _ (p : PcmSpec) (mode : StereoMode) (first n : ℕ) (s : List ℤ) (w : W
     pub two-inside : (first + n) * 2 ≤ length s
     two-inside = rw two at (w .inside)
 
-    module _ (a : List (List ℤ)) (are : a ≡ split 2 (framesFrom 2 first n s)) where
-      chans-are : split C frames ≡ a
-      chans-are = ap (λ (k : ℕ). split k (framesFrom k first n s)) two ∙ sym are
+    module _ (a : List (List ℤ)) (are : a ≡ paddedChannels 2 (framesFrom 2 first n s)) where
+      chans-are : paddedChannels C frames ≡ a
+      chans-are = ap (λ (k : ℕ). paddedChannels k (framesFrom k first n s)) two ∙ sym are
 
       level : Level depth C 512 a
       level = rw chans-are at (split-level C n (w .channels) frames long (w .most) depth all-hold)
@@ -133,18 +133,18 @@ module _ (p : PcmSpec) (mode : StereoMode) (first n : ℕ) (s : List ℤ) (w : W
         taken : takesMid mode C depth frames ≡ t
         taken = ap (λ (k : ℕ). takesMid mode k depth (framesFrom k first n s)) two ∙ sym (takes-are mode depth (framesFrom 2 first n s)) ∙ ap (takesOf mode depth) (sym are) ∙ sym takes
 
-        pub group-direct : t ≡ false → blocks depth 0 a ≡ groupOf p mode frames
-        unfolding groupOf
+        pub group-direct : t ≡ false → blocks depth 0 a ≡ encodedGroup p mode frames
+        unfolding encodedGroup
         group-direct h = rw (taken ∙ h, chans-are)
 
-        pub size-direct : t ≡ false → (r : ℕ) → ((flags : ℕ) → r ≡ length (blocks depth flags a)) → r ≡ length (groupOf p mode frames)
+        pub size-direct : t ≡ false → (r : ℕ) → ((flags : ℕ) → r ≡ length (blocks depth flags a)) → r ≡ length (encodedGroup p mode frames)
         size-direct h r e = e 0 ∙ ap length (group-direct h)
 
-        pub group-mid : t ≡ true → (b : List (List ℤ)) → b ≡ midSide a → blocks depth 1 b ≡ groupOf p mode frames
-        unfolding groupOf
+        pub group-mid : t ≡ true → (b : List (List ℤ)) → b ≡ midSide a → blocks depth 1 b ≡ encodedGroup p mode frames
+        unfolding encodedGroup
         group-mid h b both = rw (taken ∙ h, chans-are, both)
 
-        pub size-mid : t ≡ true → (b : List (List ℤ)) → b ≡ midSide a → (r : ℕ) → ((flags : ℕ) → r ≡ length (blocks depth flags b)) → r ≡ length (groupOf p mode frames)
+        pub size-mid : t ≡ true → (b : List (List ℤ)) → b ≡ midSide a → (r : ℕ) → ((flags : ℕ) → r ≡ length (blocks depth flags b)) → r ≡ length (encodedGroup p mode frames)
         size-mid h b both r e = e 1 ∙ ap length (group-mid h b both)
 
 -- ---- blocks that are the group g: their room, their length, and what is written

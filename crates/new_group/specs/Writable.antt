@@ -8,7 +8,7 @@ use lib.IntN.{ℤ}
 use lib.Dec.{eqb}
 use Rattle.format.specs.Lists.{every}
 use Rattle.format.specs.Numbers.{holds}
-use Rattle.format.specs.Encoding.{plain, parity, isMidSide}
+use Rattle.format.specs.Encoding.{unwoven, parity, isMidSide}
 use Rattle.format.specs.declared.settings.PcmSpec.{PcmSpec}
 use Rattle.format.specs.declared.settings.StereoMode.{StereoMode}
 use Rattle.lent.specs.Lent.{framesFrom}
@@ -24,4 +24,4 @@ pub record Writable (p : PcmSpec) (mode : StereoMode) (first n : ℕ) (s : List 
   pub hold : every (holds (p .«bits_per_sample»)) s ≡ true
   pub stereo : (isMidSide mode && not (eqb (p .channels) 2)) ≡ false
   -- MidSide: every frame has equal parity
-  pub even : isMidSide mode ≡ true → parity (plain (p .channels) (framesFrom (p .channels) first n s)) ≡ true
+  pub even : isMidSide mode ≡ true → parity (unwoven (p .channels) (framesFrom (p .channels) first n s)) ≡ true

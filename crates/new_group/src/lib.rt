@@ -9,7 +9,7 @@ ghost use Prim.Native.Nat.{ℕ, _+_, _*_, _<_, _≤_};
 ghost use lib.ListN.{length, getD};
 ghost use Rattle.format.specs.Lists.{over, every};
 ghost use Rattle.format.specs.Numbers.{holds};
-ghost use Rattle.format.specs.Encoding.{split, blocks, parity, groupOf};
+ghost use Rattle.format.specs.Encoding.{paddedChannels, blocks, parity, encodedGroup};
 ghost use Rattle.format.specs.declared.settings.StereoMode.the-variants.{Direct};
 ghost use Rattle.lent.specs.Lent.{lentOf, framesFrom};
 ghost use Rattle.new_group.specs.Choice.{sizesOf, autoTakes, takesOf};
@@ -73,7 +73,7 @@ fn channels_size(
     p: PcmSpec,
 ) -> usize
     requires { ⌜ (0 < n) × (n ≤ 512) × (p .«bits_per_sample» ≤ 32) × ((first + n) * p .channels ≤ length (lentOf which (now words) (now bytes))) ⌝ }
-    ensures { λ r. ⌜ (r ≡ length (blocks (p .«bits_per_sample») 0 (split (p .channels) (framesFrom (p .channels) first n (lentOf which (now (words .entry)) (now (bytes .entry))))))) × (r ≤ p .channels * 2064) ⌝ }
+    ensures { λ r. ⌜ (r ≡ length (blocks (p .«bits_per_sample») 0 (paddedChannels (p .channels) (framesFrom (p .channels) first n (lentOf which (now (words .entry)) (now (bytes .entry))))))) × (r ≤ p .channels * 2064) ⌝ }
 {
     let channels = p.channels as usize;
     let mut size: usize = 0;
@@ -95,7 +95,7 @@ pub fn group_size(
     mode: StereoMode,
 ) -> usize
     requires { ⌜ Writable p mode first n (lentOf which (now words) (now bytes)) ⌝ }
-    ensures { λ r. ⌜ (r ≡ length (groupOf p mode (framesFrom (p .channels) first n (lentOf which (now (words .entry)) (now (bytes .entry)))))) × (r ≤ p .channels * 2064) ⌝ }
+    ensures { λ r. ⌜ (r ≡ length (encodedGroup p mode (framesFrom (p .channels) first n (lentOf which (now (words .entry)) (now (bytes .entry)))))) × (r ≤ p .channels * 2064) ⌝ }
 {
     if p.channels == 2 {
         let a = lent::split(which, words, bytes, first, n);
@@ -127,8 +127,8 @@ fn write_channels(
     p: PcmSpec,
 ) -> usize
     requires { ⌜ Writable p Direct first n (lentOf which (now words) (now bytes)) ⌝ }
-    requires { ⌜ length (blocks (p .«bits_per_sample») 0 (split (p .channels) (framesFrom (p .channels) first n (lentOf which (now words) (now bytes))))) ≤ length (now out) ⌝ }
-    ensures { λ r. ⌜ (r ≡ length (blocks (p .«bits_per_sample») 0 (split (p .channels) (framesFrom (p .channels) first n (lentOf which (now (words .entry)) (now (bytes .entry))))))) × (now (out .exit) ≡ over (blocks (p .«bits_per_sample») 0 (split (p .channels) (framesFrom (p .channels) first n (lentOf which (now (words .entry)) (now (bytes .entry)))))) (now (out .entry))) ⌝ }
+    requires { ⌜ length (blocks (p .«bits_per_sample») 0 (paddedChannels (p .channels) (framesFrom (p .channels) first n (lentOf which (now words) (now bytes))))) ≤ length (now out) ⌝ }
+    ensures { λ r. ⌜ (r ≡ length (blocks (p .«bits_per_sample») 0 (paddedChannels (p .channels) (framesFrom (p .channels) first n (lentOf which (now (words .entry)) (now (bytes .entry))))))) × (now (out .exit) ≡ over (blocks (p .«bits_per_sample») 0 (paddedChannels (p .channels) (framesFrom (p .channels) first n (lentOf which (now (words .entry)) (now (bytes .entry)))))) (now (out .entry))) ⌝ }
 {
     let channels = p.channels as usize;
     let mut at: usize = 0;
@@ -151,8 +151,8 @@ pub fn write_group(
     mode: StereoMode,
 ) -> usize
     requires { ⌜ Writable p mode first n (lentOf which (now words) (now bytes)) ⌝ }
-    requires { ⌜ length (groupOf p mode (framesFrom (p .channels) first n (lentOf which (now words) (now bytes)))) ≤ length (now out) ⌝ }
-    ensures { λ r. ⌜ (r ≡ length (groupOf p mode (framesFrom (p .channels) first n (lentOf which (now (words .entry)) (now (bytes .entry)))))) × (now (out .exit) ≡ over (groupOf p mode (framesFrom (p .channels) first n (lentOf which (now (words .entry)) (now (bytes .entry))))) (now (out .entry))) ⌝ }
+    requires { ⌜ length (encodedGroup p mode (framesFrom (p .channels) first n (lentOf which (now words) (now bytes)))) ≤ length (now out) ⌝ }
+    ensures { λ r. ⌜ (r ≡ length (encodedGroup p mode (framesFrom (p .channels) first n (lentOf which (now (words .entry)) (now (bytes .entry)))))) × (now (out .exit) ≡ over (encodedGroup p mode (framesFrom (p .channels) first n (lentOf which (now (words .entry)) (now (bytes .entry))))) (now (out .entry))) ⌝ }
 {
     if p.channels == 2 {
         let a = lent::split(which, words, bytes, first, n);

@@ -5,7 +5,7 @@ use mathlib.Core.List.{List}
 use native.Mathlib.Omega.{arith}
 use lib.ListN.{length, take, drop}
 use Rattle.format.specs.Lists.{from}
-use Rattle.format.specs.Header.{fieldsOf, groupsOf, entry, group}
+use Rattle.format.specs.Header.{fieldsOf, groupsOf, entry, groupBytes}
 use Rattle.format.specs.Opening.{checkFields, checkOffsets, checkTable, checkOpen}
 use Rattle.format.specs.Decoding.{checkGroup}
 use Rattle.format.specs.declared.refusals.Checked.{Checked}
@@ -46,12 +46,12 @@ module _ (s : List ℕ) (h : Fields) (opens : checkOpen s ≡ Fine) (reads : h �
     pub part-within : e ≤ length s
     part-within = omega (arith, end-within s h table g l, data-within h (length s) offsets)
 
-    pub part-is : take (e - a) (drop a s) ≡ group s h g
-    unfolding group from
+    pub part-is : take (e - a) (drop a s) ≡ groupBytes s h g
+    unfolding groupBytes from
     part-is =
         let n : e - a ≡ entry s h (g + 1) - entry s h g = omega arith in
         ap₂ (λ (i j : ℕ). take i (drop j s)) n starts
 
     -- the group's checks, as they were made of that part
-    pub part-checked : (f : SampleFormat) (k r : Checked) → k ≡ checkGroup h f (take (e - a) (drop a s)) → k ≡ r → checkGroup h f (group s h g) ≡ r
+    pub part-checked : (f : SampleFormat) (k r : Checked) → k ≡ checkGroup h f (take (e - a) (drop a s)) → k ≡ r → checkGroup h f (groupBytes s h g) ≡ r
     part-checked f k r says t = ap (checkGroup h f) (sym part-is) ∙ sym says ∙ t

@@ -4,7 +4,6 @@ use format::Answer;
 use format::Checked;
 use format::Depth;
 use format::Fields;
-use format::Frames;
 use format::Header;
 use format::Outcome;
 use format::Refusal;
@@ -21,7 +20,8 @@ fn check_first(s: &[u8], h: Fields) -> Checked
     requires { ⌜ ((groupsOf (h .frames) ≡ 0 → ⊥) → h .start + 16 ≤ length (now s)) ⌝ }
     ensures { λ r. ⌜ r ≡ checkFirst (now (s .entry)) h ⌝ }
 {
-    if header::groups_of(h.frames) == 0 {
+    let frames = h.frames;
+    if frames.groups() == 0 {
         return Checked::Fine;
     }
     let at = h.start as usize;
@@ -59,7 +59,8 @@ pub fn format_of(s: &[u8], h: Fields) -> SampleFormat
     requires { ⌜ (checkOpen (now s) ≡ Fine) × (h ≡ fieldsOf (now s)) ⌝ }
     ensures { λ r. ⌜ r ≡ formatOf (now (s .entry)) h ⌝ }
 {
-    if header::groups_of(h.frames) == 0 {
+    let frames = h.frames;
+    if frames.groups() == 0 {
         return SampleFormat::Pcm;
     }
     let at = h.start as usize;
@@ -84,15 +85,16 @@ fn header_of(s: &[u8]) -> Header
     ensures { λ r. ⌜ r ≡ headerOf (now (s .entry)) ⌝ }
 {
     let h = header::read_fields(s);
+    let frames = h.frames;
     Header {
         channels: h.channels,
         depth: Depth::of(h.depth),
         rate: h.rate,
-        frames: Frames(h.frames),
+        frames,
         table: h.table,
         start: h.start,
         size: h.size,
-        groups: header::groups_of(h.frames),
+        groups: frames.groups(),
         format: format_of(s, h),
     }
 }

@@ -8,24 +8,24 @@ use lib.IntN.{ℤ, pos}
 use lib.ListN.{length, getD, drop, drop-of-length-le}
 use Rattle.format.specs.Lists.{every}
 use Rattle.format.specs.Numbers.{holds, minus}
-use Rattle.format.specs.Encoding.{least, differences}
+use Rattle.format.specs.Encoding.{leastFrom, differences}
 use Rattle.laws.proofs.Parts.{left-now}
 
 -- from b on there are as many widths more as lie below `top`
 module _ (top b : ℕ) (ds : List ℤ) (h : b < top) where
-  unrolled : least (top - b) b ds ≡ cond (every (holds b) ds) b (least (top - (b + 1)) (b + 1) ds)
-  unfolding least
-  unrolled = let e : top - b ≡ suc (top - (b + 1)) = omega arith in ap (λ (n : ℕ). least n b ds) e
+  unrolled : leastFrom (top - b) b ds ≡ cond (every (holds b) ds) b (leastFrom (top - (b + 1)) (b + 1) ds)
+  unfolding leastFrom
+  unrolled = let e : top - b ≡ suc (top - (b + 1)) = omega arith in ap (λ (n : ℕ). leastFrom n b ds) e
 
-  pub least-here : every (holds b) ds ≡ true → least (top - b) b ds ≡ b
-  least-here e = unrolled ∙ ap (λ (t : Bool). cond t b (least (top - (b + 1)) (b + 1) ds)) e
+  pub least-here : every (holds b) ds ≡ true → leastFrom (top - b) b ds ≡ b
+  least-here e = unrolled ∙ ap (λ (t : Bool). cond t b (leastFrom (top - (b + 1)) (b + 1) ds)) e
 
-  pub least-next : every (holds b) ds ≡ false → least (top - b) b ds ≡ least (top - (b + 1)) (b + 1) ds
-  least-next e = unrolled ∙ ap (λ (t : Bool). cond t b (least (top - (b + 1)) (b + 1) ds)) e
+  pub least-next : every (holds b) ds ≡ false → leastFrom (top - b) b ds ≡ leastFrom (top - (b + 1)) (b + 1) ds
+  least-next e = unrolled ∙ ap (λ (t : Bool). cond t b (leastFrom (top - (b + 1)) (b + 1) ds)) e
 
-pub least-last : (top b : ℕ) (ds : List ℤ) → top - b ≡ 0 → least (top - b) b ds ≡ b
-unfolding least
-least-last top b ds e = ap (λ (n : ℕ). least n b ds) e
+pub least-last : (top b : ℕ) (ds : List ℤ) → top - b ≡ 0 → leastFrom (top - b) b ds ≡ b
+unfolding leastFrom
+least-last top b ds e = ap (λ (n : ℕ). leastFrom n b ds) e
 
 module _ (xs : List ℤ) (i : ℕ) where
   pub difference-now : i + 1 < length xs → differences (drop i xs) ≡ minus (getD xs (i + 1) (pos 0)) (getD xs i (pos 0)) ∷ differences (drop (i + 1) xs)

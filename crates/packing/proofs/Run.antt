@@ -17,7 +17,7 @@ use mir.ValLaws.{toZ-ofZ}
 use borrow.Author.Tests.{lt-ltb, ltb-true}
 use Rattle.format.specs.Lists.{every}
 use Rattle.format.specs.Numbers.{num, digits, Below, codeOf, holds}
-use Rattle.format.specs.Packed.{bytes, packing}
+use Rattle.format.specs.Packed.{runOf, packing}
 use Rattle.laws.proofs.Digits.{pow-mul, digits-num}
 use Rattle.laws.proofs.Signs.{Holds, every-holds, code-lt}
 use Rattle.bits.specs.Place.{Room}
@@ -80,7 +80,7 @@ module _ (b : ℕ) (vs : List ℤ) where
 
   -- 512 codes end on a whole word, and no bit waits
   pub done-all : (s : List ℕ) (c : PutCursor) (k : ℕ) → length s ≡ 64 * b → length vs ≡ 512 → k ≤ 512 → 512 ≤ k → Below 256 s → Done b vs s c k → s ≡ packing b vs
-  unfolding packing bytes
+  unfolding packing runOf
   done-all s c k l m g u h d =
       let cs = map (codeOf b) vs in
       let o = d .valid in

@@ -15,7 +15,7 @@ use mir.ValLaws.{toZ-ofZ}
 use borrow.Author.Tests.{ltb-true, lt-ltb, le-ltb}
 use Rattle.format.specs.Lists.{every}
 use Rattle.format.specs.Numbers.{holds}
-use Rattle.format.specs.Encoding.{least, width}
+use Rattle.format.specs.Encoding.{leastFrom, leastWidth}
 use Rattle.format.specs.Refusals.{refuse}
 use Rattle.format.specs.declared.refusals.Refusal.the-variants.{WidthTooSmall}
 use Rattle.format.specs.declared.refusals.Checked.the-variants.{Fine, No}
@@ -104,17 +104,17 @@ module _ (vs : List ℤ) (m b p : ℕ) (all : Bounds vs m) (power : p ≡ 2 ^ (b
 
 -- the least width of values whose largest magnitude is m is not below b
 abbrev pub Sought : ℕ → ℕ → Type 0
-Sought m b = (vs : List ℤ) → Bounds vs m → least (32 - b) b vs ≡ width vs
+Sought m b = (vs : List ℤ) → Bounds vs m → leastFrom (32 - b) b vs ≡ leastWidth vs
 
 pub sought-none : (m : ℕ) → Sought m 2
-unfolding width
+unfolding leastWidth
 sought-none m vs all = refl
 
 pub sought-more : (m b p : ℕ) → b < 32 → p ≡ 2 ^ (b - 1) → p ≤ m → Sought m b → Sought m (b + 1)
 sought-more m b p l e h s vs all = sym (least-next 32 b vs l (holds-some vs m b p all e h)) ∙ s vs all
 
-pub sought-here : (vs : List ℤ) (m b p : ℕ) → Bounds vs m → b < 32 → p ≡ 2 ^ (b - 1) → m < p → Sought m b → b ≡ width vs
+pub sought-here : (vs : List ℤ) (m b p : ℕ) → Bounds vs m → b < 32 → p ≡ 2 ^ (b - 1) → m < p → Sought m b → b ≡ leastWidth vs
 sought-here vs m b p all l e h s = sym (least-here 32 b vs l (holds-all vs m b p all e h)) ∙ s vs all
 
-pub sought-last : (vs : List ℤ) (m b : ℕ) → Bounds vs m → 32 ≤ b → Sought m b → b ≡ width vs
+pub sought-last : (vs : List ℤ) (m b : ℕ) → Bounds vs m → 32 ≤ b → Sought m b → b ≡ leastWidth vs
 sought-last vs m b all h s = sym (least-last 32 b vs (omega arith)) ∙ s vs all

@@ -14,7 +14,7 @@ ghost use Rattle.format.specs.Lists.{every};
 ghost use Rattle.format.specs.Numbers.{codeOf, holds};
 ghost use Rattle.format.specs.Packed.{packing};
 ghost use Rattle.format.specs.Answers.{filled};
-ghost use Rattle.format.specs.Encoding.{differences, width};
+ghost use Rattle.format.specs.Encoding.{differences, leastWidth};
 ghost use Rattle.bits.specs.Place.{Room};
 ghost use Rattle.packing.specs.Place.{Open, Put, origin, end};
 ghost use Rattle.packing.specs.Fit.{checkFit};
@@ -86,7 +86,7 @@ fn largest(values: [i32; 512]) -> u32
 
 // The least width from 2 to 32 that holds all.
 pub fn width(values: [i32; 512]) -> u32
-    ensures { λ r. ⌜ r ≡ width values ⌝ }
+    ensures { λ r. ⌜ r ≡ leastWidth values ⌝ }
 {
     let m = largest(values) as u64;
     let mut b: u32 = 2;

@@ -5,7 +5,6 @@ use format::Framed;
 use format::Frames;
 use format::PcmSpec;
 use format::Refusal;
-use format::Samples;
 use lent::Container;
 ghost use mathlib.Core.Path.{_≡_};
 ghost use mathlib.Core.List.{List, [], _∷_};
@@ -68,7 +67,7 @@ pub fn check_reencoder(p: PcmSpec) -> Checked
 fn framed(which: Container, words: &[i32], bytes: &[u8], channels: u16) -> Framed
     ensures { λ r. ⌜ r ≡ framesIn (record { 0 = length (lentOf which (now (words .entry)) (now (bytes .entry))) }) channels ⌝ }
 {
-    let samples = Samples(lent::count(which, words, bytes) as u64);
+    let samples = lent::count(which, words, bytes);
     samples.frames(channels)
 }
 

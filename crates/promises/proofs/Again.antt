@@ -1,5 +1,5 @@
 -- The new file serves as template exactly as the old one did.
-use Prim.Native.Nat.{ℕ, _+_, _/_, _≤_, _<_}
+use Prim.Native.Nat.{ℕ, _+_, _≤_, _<_}
 use mathlib.Core.Path.{_≡_, refl, sym, ap, ap₂, _∙_}
 use mathlib.Core.Bool.{Bool, not}
 use mathlib.Core.List.{List, _++_, append-assoc}
@@ -11,11 +11,11 @@ use lib.Dec.{ltb, leb, eqb}
 use Rattle.laws.proofs.TemplateFiles as F
 use Rattle.promises.proofs.Refile as R
 use Rattle.format.specs.Lists.{joined, over}
-use Rattle.format.specs.Header.{fieldsOf, groupsOf, entry, group}
+use Rattle.format.specs.Header.{fieldsOf, groupsOf, entry, groupBytes}
 use Rattle.format.specs.Refusals.{refuse, _then_, inOrder}
 use Rattle.format.specs.Answers.{answered, filled}
-use Rattle.format.specs.Encoding.{groupIn, checkSamples}
-use Rattle.format.specs.Reencoding.{checkNewGroup, newGroup, checkSame, checkBounds, checkRising, checkTemplate, checkReencode, checkReencodeInto, refileOf, reencodeOf, reencodeInto}
+use Rattle.format.specs.Encoding.{groupIn, checkSamples, framesOf}
+use Rattle.format.specs.Reencoding.{checkReencodeGroup, reencodedGroup, checkSame, checkBounds, checkRising, checkTemplate, checkReencode, checkReencodeInto, reencodedFile, reencodeOf, reencodeInto}
 use Rattle.format.specs.Boundary.{samplesFrom, checkBytes, result, checkHostReencode, hostReencode, hostReencodeInto}
 use Rattle.format.specs.declared.refusals.Refusal.the-variants.{TooShort, FileSignature, TemplateOffsets, OutputTooShort}
 use Rattle.format.specs.declared.refusals.Checked.{Checked}
@@ -41,7 +41,7 @@ module _ (p : PcmSpec) (s : List ℤ) (t : List ℕ) (ok : checkReencode p s t �
   count = groupsOf (h .frames)
 
   abbrev t′ : List ℕ
-  t′ = refileOf s t
+  t′ = reencodedFile s t
 
   -- ---- before the data and after them
   abbrev fields-same : fieldsOf t′ ≡ h
@@ -75,7 +75,7 @@ module _ (p : PcmSpec) (s : List ℤ) (t : List ℕ) (ok : checkReencode p s t �
     template-same =
         ap (λ (x : ℕ). refuse (ltb x 120) TooShort) (F.same-length p s t ok)
         then-same λ a. ap (λ (b : Bool). refuse (not b) FileSignature) (R.signed-same p s t ok ∙ sym (F.signed-ok p s t (F.template-ok p s t ok)))
-        then-same λ a. ap (checkSame q (length z / q .channels)) fields-same
+        then-same λ a. ap (checkSame q (framesOf q z)) fields-same
         then-same λ a. ap₂ checkBounds fields-same (F.same-length p s t ok)
         then-same λ a. ap (checkRising t′) fields-same ∙ rising-same
 
@@ -90,20 +90,20 @@ module _ (p : PcmSpec) (s : List ℤ) (t : List ℕ) (ok : checkReencode p s t �
         refl
         then-same λ a. refl
         then-same λ samples. template-same
-        then-same λ template. ap (λ (x : Fields). inOrder (λ g. checkNewGroup (x .depth) (x .channels) (group t′ x g) (groupIn (x .channels) z g)) (groupsOf (x .frames))) fields-same
+        then-same λ template. ap (λ (x : Fields). inOrder (λ g. checkReencodeGroup (x .depth) (x .channels) (groupBytes t′ x g) (groupIn (x .channels) z g)) (groupsOf (x .frames))) fields-same
         ∙ order-cong _ _ count
-        (λ g l. ap (λ (b : List ℕ). checkNewGroup (h .depth) n b (groupIn n z g)) (R.group-new p s t ok g l)
+        (λ g l. ap (λ (b : List ℕ). checkReencodeGroup (h .depth) n b (groupIn n z g)) (R.group-new p s t ok g l)
         ∙ group-checks-same (R.accepted p s t ok g l) (groupIn n z g) (parts-long template samples g l))
 
     -- and gives the same
-    pub same-file : checkReencode q z t ≡ Fine → refileOf z t′ ≡ refileOf z t
-    unfolding refileOf
+    pub same-file : checkReencode q z t ≡ Fine → reencodedFile z t′ ≡ reencodedFile z t
+    unfolding reencodedFile
     same-file fine =
-        ap (λ (x : Fields). take (x .start) t′ ++ (joined (λ g. newGroup (x .depth) (x .channels) (group t′ x g) (groupIn (x .channels) z g)) (groupsOf (x .frames)) ++ drop (x .start + x .size) t′)) fields-same
-        ∙ ap₂ (λ (x y : List ℕ). x ++ (joined (λ g. newGroup (h .depth) n (group t′ h g) (groupIn n z g)) count ++ y)) front-kept back-kept
+        ap (λ (x : Fields). take (x .start) t′ ++ (joined (λ g. reencodedGroup (x .depth) (x .channels) (groupBytes t′ x g) (groupIn (x .channels) z g)) (groupsOf (x .frames)) ++ drop (x .start + x .size) t′)) fields-same
+        ∙ ap₂ (λ (x y : List ℕ). x ++ (joined (λ g. reencodedGroup (h .depth) n (groupBytes t′ h g) (groupIn n z g)) count ++ y)) front-kept back-kept
         ∙ ap (λ (x : List ℕ). take (h .start) t ++ (x ++ drop (h .start + h .size) t))
         (joined-cong _ _ count
-        (λ g l. ap (λ (b : List ℕ). newGroup (h .depth) n b (groupIn n z g)) (R.group-new p s t ok g l)
+        (λ g l. ap (λ (b : List ℕ). reencodedGroup (h .depth) n b (groupIn n z g)) (R.group-new p s t ok g l)
         ∙ group-same (R.accepted p s t ok g l) (groupIn n z g) (parts-long (F.template-ok q z t fine) (F.samples-ok q z t fine) g l)))
 
     -- ---- so re-encoding answers the same, and leaves the same
@@ -118,9 +118,9 @@ module _ (p : PcmSpec) (s : List ℤ) (t : List ℕ) (ok : checkReencode p s t �
     pub leaves-same : (lent : List ℕ) → reencodeInto q z t′ lent ≡ reencodeInto q z t lent
     unfolding reencodeInto checkReencodeInto
     leaves-same lent =
-        ap (λ (c : Checked). filled c (refileOf z t′) lent) (into-same (length lent)) ∙ by (checkReencodeInto q z t (length lent)) refl
+        ap (λ (c : Checked). filled c (reencodedFile z t′) lent) (into-same (length lent)) ∙ by (checkReencodeInto q z t (length lent)) refl
       where
-        by : (c : Checked) → checkReencodeInto q z t (length lent) ≡ c → filled c (refileOf z t′) lent ≡ filled c (refileOf z t) lent
+        by : (c : Checked) → checkReencodeInto q z t (length lent) ≡ c → filled c (reencodedFile z t′) lent ≡ filled c (reencodedFile z t) lent
         by Fine e = ap (λ (f : List ℕ). over f lent) (same-file (first-fine _ _ e))
         by (No r) e = refl
 
@@ -141,6 +141,6 @@ module _ (p : PcmSpec) (s : List ℤ) (t : List ℕ) (ok : checkReencode p s t �
     unfolding hostReencodeInto checkHostReencode reencodeInto _then_
     host-leaves-same = by (checkBytes b)
       where
-        by : (c : Checked) → filled (c then checkReencodeInto q z t′ (length room)) (refileOf z t′) room ≡ filled (c then checkReencodeInto q z t (length room)) (refileOf z t) room
+        by : (c : Checked) → filled (c then checkReencodeInto q z t′ (length room)) (reencodedFile z t′) room ≡ filled (c then checkReencodeInto q z t (length room)) (reencodedFile z t) room
         by Fine = leaves-same q z room
         by (No r) = refl

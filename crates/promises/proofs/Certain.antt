@@ -12,8 +12,8 @@ use Rattle.format.specs.Answers.{refusedBy, answered, filled}
 use Rattle.format.specs.Opening.{checkOpen, headerOf, openOf}
 use Rattle.format.specs.Decoding.{checkDecode, decodedOf, decodedCount, checkRoom, decodeOf, decodeInto}
 use Rattle.format.specs.Walking.{stepSamples, stepCount, isLeft, checkWalk, stepOf, stepInto}
-use Rattle.format.specs.Encoding.{fileOf, checkEncode, checkEncodeInto, encodeOf, encodeInto}
-use Rattle.format.specs.Reencoding.{refileOf, checkReencode, checkReencodeInto, reencodeOf, reencodeInto}
+use Rattle.format.specs.Encoding.{encodedFile, checkEncode, checkEncodeInto, encodeOf, encodeInto}
+use Rattle.format.specs.Reencoding.{reencodedFile, checkReencode, checkReencodeInto, reencodeOf, reencodeInto}
 use Rattle.format.specs.Boundary.{samplesFrom, sampleBytes, modeOf, checkMode, checkBytes, result, hostDecode, hostDecodeInto, checkHostEncode, hostEncode, hostEncodeInto, checkHostReencode, hostReencode, hostReencodeInto}
 use Rattle.format.specs.Promises.{Opens, Decodes, Steps, Advances, Encodes, Reencodes, HostOpens, HostDecodes, HostEncodes, HostReencodes}
 use Rattle.format.specs.declared.units.Samples.{Samples}
@@ -56,7 +56,7 @@ refused-exactly =
       decodes = λ s lent after r x e. exactly-no (checkDecode s then checkRoom s (length lent)) (Read (decodedCount s)) refl x r (e .0);
       steps = λ s g lent after r x e.
           exactly-no (checkWalk s g (length lent)) (cond (isLeft s g) (Read (stepCount s g)) Finished) (left-or-done (isLeft s g) (stepCount s g)) x r (e .0);
-      encodes = λ p mode s lent after r x e. exactly-no (checkEncodeInto p mode s (length lent)) (Wrote (length (fileOf p mode s))) refl x r (e .0);
+      encodes = λ p mode s lent after r x e. exactly-no (checkEncodeInto p mode s (length lent)) (Wrote (length (encodedFile p mode s))) refl x r (e .0);
       reencodes = λ p s t lent after r x e. exactly-no (checkReencodeInto p s t (length lent)) (Wrote (length t)) refl x r (e .0);
     }
 
@@ -160,11 +160,11 @@ step-keeps s g lent x after d =
 
 encode-keeps : (p : PcmSpec) (mode : StereoMode) (s : List ℤ) (lent : List ℕ) → Keeps (Encodes p mode s lent) lent
 unfolding encodeOf encodeInto
-encode-keeps p mode s lent x after e = refused-keeps (checkEncodeInto p mode s (length lent)) (Wrote (length (fileOf p mode s))) x (fileOf p mode s) lent after refl (e .0) (e .1)
+encode-keeps p mode s lent x after e = refused-keeps (checkEncodeInto p mode s (length lent)) (Wrote (length (encodedFile p mode s))) x (encodedFile p mode s) lent after refl (e .0) (e .1)
 
 reencode-keeps : (p : PcmSpec) (s : List ℤ) (t lent : List ℕ) → Keeps (Reencodes p s t lent) lent
 unfolding reencodeOf reencodeInto
-reencode-keeps p s t lent x after e = refused-keeps (checkReencodeInto p s t (length lent)) (Wrote (length t)) x (refileOf s t) lent after refl (e .0) (e .1)
+reencode-keeps p s t lent x after e = refused-keeps (checkReencodeInto p s t (length lent)) (Wrote (length t)) x (reencodedFile s t) lent after refl (e .0) (e .1)
 
 -- at the boundary, with the checks c, the outcome o of success and what it writes
 host-keeps : (c : Checked) (o : Outcome) (w lent : List ℕ) → (length lent < 2 ^ 63 → c ≡ Fine → result o < 2 ^ 63)
@@ -183,7 +183,7 @@ host-decode-keeps s lent =
 host-encode-keeps : (b : List ℕ) (p : PcmSpec) (mode : ℕ) (lent : List ℕ) → HostKeeps (HostEncodes b p mode lent) lent
 unfolding hostEncode hostEncodeInto checkHostEncode checkEncodeInto
 host-encode-keeps b p mode lent =
-    let file = fileOf p (modeOf mode) (samplesFrom b) in
+    let file = encodedFile p (modeOf mode) (samplesFrom b) in
     host-keeps (checkHostEncode b p mode (length lent)) (Wrote (length file)) file lent
     (λ short fine.
     let q = has-room (checkEncode p (modeOf mode) (samplesFrom b)) (length lent) (length file) OutputTooShort (others-fine (checkBytes b) _ (others-fine (checkMode mode) _ fine)) in
@@ -192,7 +192,7 @@ host-encode-keeps b p mode lent =
 host-reencode-keeps : (b : List ℕ) (p : PcmSpec) (t lent : List ℕ) → HostKeeps (HostReencodes b p t lent) lent
 unfolding hostReencode hostReencodeInto checkHostReencode checkReencodeInto
 host-reencode-keeps b p t lent =
-    host-keeps (checkHostReencode b p t (length lent)) (Wrote (length t)) (refileOf (samplesFrom b) t) lent
+    host-keeps (checkHostReencode b p t (length lent)) (Wrote (length t)) (reencodedFile (samplesFrom b) t) lent
     (λ short fine. let q = has-room (checkReencode p (samplesFrom b) t) (length lent) (length t) OutputTooShort (others-fine (checkBytes b) _ fine) in omega arith)
 
 keeps-in-either : (P : Answer → List ℤ → Type 0) (which : Container) (words : List ℤ) (bytes : List ℕ) → Keeps P (lentOf which words bytes) → KeepsInEither P which words bytes

@@ -1,18 +1,19 @@
 -- What is written is fixed in every group, in its length and in its header.
-use Prim.Native.Nat.{ℕ, _+_, _*_, _/_, _<_, min}
+use Prim.Native.Nat.{ℕ, _+_, _*_, _<_, min}
 use mathlib.Core.Path.{_≡_, sym, ap, _∙_}
 use mathlib.Core.List.{List, [], _++_}
 use native.Mathlib.Omega.{arith}
 use lib.ListN.{length, take, drop}
 use lib.IntN.{ℤ}
 use Rattle.format.specs.Lists.{joined, from, over}
-use Rattle.format.specs.Header.{fieldsOf, groupsOf, group}
+use Rattle.format.specs.Header.{fieldsOf, groupsOf, groupBytes}
 use Rattle.format.specs.Answers.{answeredBy, filled, read, wrote}
 use Rattle.format.specs.Opening.{formatOf, checkOpen, headerFor, openOf}
-use Rattle.format.specs.Decoding.{checkGroup, active, checkDecode, decodedOf, decodeInto}
+use Rattle.format.specs.Units.{active}
+use Rattle.format.specs.Decoding.{checkGroup, checkDecode, decodedOf, decodeInto}
 use Rattle.format.specs.Walking.{stepSamples}
-use Rattle.format.specs.Encoding.{groupIn, groupAt, fileOf}
-use Rattle.format.specs.Reencoding.{newGroup}
+use Rattle.format.specs.Encoding.{groupIn, encodedGroupAt, encodedFile, framesOf}
+use Rattle.format.specs.Reencoding.{reencodedGroup}
 use Rattle.format.specs.Promises.{Opens, Decodes, Steps, Encodes, Reencodes}
 use Rattle.format.specs.declared.refusals.Checked.{Checked}
 use Rattle.format.specs.declared.settings.PcmSpec.{PcmSpec}
@@ -44,10 +45,10 @@ pub record EveryGroup : Type 0 where
   pub stepped : (s : List ℕ) (g : ℕ) (lent after : List ℤ) (n : ℕ) → Steps s g lent (read n) after → take n after ≡ stepSamples s g
   -- group g of the file is that of the samples' group g
   pub encoded : (p : PcmSpec) (mode : StereoMode) (s : List ℤ) (lent file : List ℕ) (n : ℕ) → Rate32 p → Encodes p mode s lent (wrote n) file
-      → (g : ℕ) → g < groupsOf (length s / p .channels) → group (take n file) (fieldsOf (take n file)) g ≡ groupAt p mode s g
+      → (g : ℕ) → g < groupsOf (framesOf p s) → groupBytes (take n file) (fieldsOf (take n file)) g ≡ encodedGroupAt p mode s g
   -- made of the template's group g, and with the template's header
   pub reencoded : (p : PcmSpec) (s : List ℤ) (t lent file : List ℕ) (n : ℕ) → Reencodes p s t lent (wrote n) file
-      → let h = fieldsOf t in (fieldsOf (take n file) ≡ h) × ((g : ℕ) → g < groupsOf (h .frames) → group (take n file) h g ≡ newGroup (h .depth) (h .channels) (group t h g) (groupIn (h .channels) s g))
+      → let h = fieldsOf t in (fieldsOf (take n file) ≡ h) × ((g : ℕ) → g < groupsOf (h .frames) → groupBytes (take n file) h g ≡ reencodedGroup (h .depth) (h .channels) (groupBytes t h g) (groupIn (h .channels) s g))
 
 -- of a file that decoded
 module _ (s : List ℕ) (lent after : List ℤ) (n : ℕ) (d : Decodes s lent (read n) after) where
@@ -61,13 +62,13 @@ module _ (s : List ℕ) (lent after : List ℤ) (n : ℕ) (d : Decodes s lent (r
   unfolding stepSamples checkDecode
   step-long g l =
       let fine = read-fine s lent after n d in
-      group-writes h (formatOf s h) (group s h g) (some-channels h (opened-fields s (first-fine _ _ fine)))
-      (order-fine (λ g. checkGroup h (formatOf s h) (group s h g)) g count l (others-fine (checkOpen s) _ fine)) g
+      group-writes h (formatOf s h) (groupBytes s h g) (some-channels h (opened-fields s (first-fine _ _ fine)))
+      (order-fine (λ g. checkGroup h (formatOf s h) (groupBytes s h g)) g count l (others-fine (checkOpen s) _ fine)) g
 
   starts : (g : ℕ) → g < count → 512 * h .channels * g ≡ length (joined (stepSamples s) g)
   unfolding groupsOf
   starts g l =
-      let e : min (h .frames) (512 * g) ≡ 512 * g = omega arith in
+      let e : min (h .frames .0) (512 * g) ≡ 512 * g = omega arith in
       group-starts (h .channels) g ∙ ap (λ (x : ℕ). h .channels * x) (sym e) ∙ sym (active-sum (h .frames) (h .channels) (stepSamples s) g (λ j q. step-long j (omega arith)))
 
   lies : after ≡ joined (stepSamples s) count ++ drop (length (decodedOf s)) lent
@@ -92,21 +93,21 @@ every-group =
       encoded = λ p mode s lent file n rate e g l.
           let ok = encode-ok p mode s lent file n e in
           let lay = RoundTrip.layout p mode s ok rate in
-          ap (λ (f : List ℕ). group f (fieldsOf f) g) (file-written p mode s lent file n e) ∙ ap (λ (x : Fields). group (fileOf p mode s) x g) (lay .fields) ∙ lay .groups g l;
+          ap (λ (f : List ℕ). groupBytes f (fieldsOf f) g) (file-written p mode s lent file n e) ∙ ap (λ (x : Fields). groupBytes (encodedFile p mode s) x g) (lay .fields) ∙ lay .groups g l;
       reencoded = λ p s t lent file n e.
           let ok = reencode-ok p s t lent file n e in
           let f = new-file p s t lent file n e in
-          (ap fieldsOf f ∙ Refile.fields-same p s t ok, λ g l. ap (λ (x : List ℕ). group x (fieldsOf t) g) f ∙ Refile.group-new p s t ok g l);
+          (ap fieldsOf f ∙ Refile.fields-same p s t ok, λ g l. ap (λ (x : List ℕ). groupBytes x (fieldsOf t) g) f ∙ Refile.group-new p s t ok g l);
     }
 
 -- ---- the length
 pub record LengthsAre : Type 0 where
   -- frames × channels
-  pub decoded : (s : List ℕ) (lent after : List ℤ) (n : ℕ) → Decodes s lent (read n) after → n ≡ fieldsOf s .frames * fieldsOf s .channels
+  pub decoded : (s : List ℕ) (lent after : List ℤ) (n : ℕ) → Decodes s lent (read n) after → n ≡ fieldsOf s .frames .0 * fieldsOf s .channels
   pub stepped : (s : List ℕ) (g : ℕ) (lent after : List ℤ) (n : ℕ) → Steps s g lent (read n) after → n ≡ active (fieldsOf s .frames) g * fieldsOf s .channels
   -- the data offset and the sum of block lengths, each 16 + 64 × width
   pub encoded : (p : PcmSpec) (mode : StereoMode) (s : List ℤ) (lent file : List ℕ) (n : ℕ) → Encodes p mode s lent (wrote n) file
-      → let frames = length s / p .channels in n ≡ offsetOf frames + sum (λ g. blocksIn (p .«bits_per_sample») (codedAt p mode s g)) (groupsOf frames)
+      → let frames = framesOf p s in n ≡ offsetOf frames + sum (λ g. blocksIn (p .«bits_per_sample») (codedAt p mode s g)) (groupsOf frames)
   -- the template's
   pub reencoded : (p : PcmSpec) (s : List ℤ) (t lent file : List ℕ) (n : ℕ) → Reencodes p s t lent (wrote n) file → n ≡ length t
 
@@ -123,8 +124,8 @@ lengths-are =
 pub record HeadersAre : Type 0 where
   -- the file opens with the call's settings and the samples' frames, as PCM
   pub encoded : (p : PcmSpec) (mode : StereoMode) (s : List ℤ) (lent file : List ℕ) (n : ℕ) → Rate32 p → Encodes p mode s lent (wrote n) file
-      → let frames = length s / p .channels in (r : Answer) → Opens (take n file) r
-      → r ≡ answeredBy (Opened (headerFor (fieldsFor p frames (offsetOf frames) (length (joined (groupAt p mode s) (groupsOf frames)))) Pcm))
+      → let frames = framesOf p s in (r : Answer) → Opens (take n file) r
+      → r ≡ answeredBy (Opened (headerFor (fieldsFor p frames (offsetOf frames) (length (joined (encodedGroupAt p mode s) (groupsOf frames)))) Pcm))
   -- the new file opens as the template does
   pub reencoded : (p : PcmSpec) (s : List ℤ) (t lent file : List ℕ) (n : ℕ) → Reencodes p s t lent (wrote n) file
       → (r r′ : Answer) → Opens (take n file) r → Opens t r′ → r ≡ r′

@@ -12,8 +12,8 @@ use Rattle.format.specs.Refusals.{_then_}
 use Rattle.format.specs.Answers.{answeredBy, refusedBy, answered, read, wrote}
 use Rattle.format.specs.Opening.{headerOf, openOf}
 use Rattle.format.specs.Decoding.{checkDecode, decodedOf}
-use Rattle.format.specs.Encoding.{fileOf, checkEncoder, checkSamples, checkEncodeInto, encodeOf}
-use Rattle.format.specs.Reencoding.{refileOf}
+use Rattle.format.specs.Encoding.{encodedFile, checkEncoder, checkSamples, checkEncodeInto, encodeOf}
+use Rattle.format.specs.Reencoding.{reencodedFile}
 use Rattle.format.specs.Promises.{Opens, Decodes, Encodes, Reencodes}
 use Rattle.format.specs.declared.refusals.Checked.{Checked}
 use Rattle.format.specs.declared.refusals.Checked.the-variants.{Fine}
@@ -47,7 +47,7 @@ pub there-and-back : (p : PcmSpec) (mode : StereoMode) (s : List ℤ) (lent file
     → (r ≡ read (length s)) × (after ≡ over s out)
 there-and-back p mode s lent file n out after r rate e room d =
     let ok = encode-ok p mode s lent file n e in
-    decodes-to (fileOf p mode s) s out after r (RoundTrip.decodes p mode s ok rate) (RoundTrip.gives-back p mode s ok rate) room
+    decodes-to (encodedFile p mode s) s out after r (RoundTrip.decodes p mode s ok rate) (RoundTrip.gives-back p mode s ok rate) room
     (subst (λ (f : List ℕ). Decodes f out r after) (file-written p mode s lent file n e) d)
 
 -- ---- 2. PARITY
@@ -59,7 +59,7 @@ pub parity-exactly : (p : PcmSpec) (s : List ℤ) (lent after : List ℕ) (r : A
     → Exactly (r ≡ refusedBy ParityDiffers) (((checkEncoder p then checkSamples p s) ≡ Fine) × Some (oddFrame s) (length s / 2))
 unfolding encodeOf
 parity-exactly p s lent after r two e =
-    let q = exactly-no (checkEncodeInto p MidSide s (length lent)) (Wrote (length (fileOf p MidSide s))) refl ParityDiffers r (e .0) in
+    let q = exactly-no (checkEncodeInto p MidSide s (length lent)) (Wrote (length (encodedFile p MidSide s))) refl ParityDiffers r (e .0) in
     (λ x. parity-so p s two (length lent) ParityDiffers refl (q .0 x), λ x. q .1 (so-parity p s two (length lent) (x .0) (x .1)))
 
 -- ---- 3. LAW ONE: the new file decodes to the samples
@@ -72,7 +72,7 @@ pub law-one : (p : PcmSpec) (s : List ℤ) (t lent file : List ℕ) (n : ℕ) (o
     → (r ≡ read (length s)) × (after ≡ over s out)
 law-one p s t lent file n out after r e room d =
     let ok = reencode-ok p s t lent file n e in
-    decodes-to (refileOf s t) s out after r (Refile.decodes p s t ok) (Refile.gives-back p s t ok) room
+    decodes-to (reencodedFile s t) s out after r (Refile.decodes p s t ok) (Refile.gives-back p s t ok) room
     (subst (λ (f : List ℕ). Decodes f out r after) (new-file p s t lent file n e) d)
 
 -- ---- 4. LAW TWO: the new file serves as template exactly as the old one did
@@ -85,7 +85,7 @@ pub law-two : (p : PcmSpec) (s : List ℤ) (t lent file : List ℕ) (n : ℕ) (q
     → (r ≡ r′) × (after ≡ after′)
 law-two p s t lent file n q z room after after′ r r′ e old new =
     let ok = reencode-ok p s t lent file n e in
-    let moved : Reencodes q z (refileOf s t) room r′ after′ = subst (λ (f : List ℕ). Reencodes q z f room r′ after′) (new-file p s t lent file n e) new in
+    let moved : Reencodes q z (reencodedFile s t) room r′ after′ = subst (λ (f : List ℕ). Reencodes q z f room r′ after′) (new-file p s t lent file n e) new in
     (old .0 ∙ sym (says-same p s t ok q z (length room)) ∙ sym (moved .0), old .1 ∙ sym (leaves-same p s t ok q z room) ∙ sym (moved .1))
 
 -- ---- 5. LAW THREE: a template with its own samples is itself

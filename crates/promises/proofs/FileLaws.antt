@@ -9,9 +9,10 @@ use lib.Seq.{drop-at}
 use borrow.Author.Tests.{le-ltb, eq-eqb}
 use Rattle.format.specs.Lists.{joined, from, same}
 use Rattle.format.specs.Numbers.{num, digits, le, numAt}
-use Rattle.format.specs.Header.{signature, isSignature, fieldsOf, groupsOf, entry, group}
+use Rattle.format.specs.Header.{signature, isSignature, fieldsOf, groupsOf, entry, groupBytes}
 use Rattle.format.specs.Opening.{checkOffsets}
-use Rattle.format.specs.Encoding.{header, tableOf, assembled}
+use Rattle.format.specs.Encoding.{headerBytes, tableOf, assembled}
+use Rattle.format.specs.declared.units.Frames.{Frames}
 use Rattle.format.specs.declared.refusals.Checked.the-variants.{Fine}
 use Rattle.format.specs.declared.settings.PcmSpec.{PcmSpec}
 use Rattle.format.specs.declared.answers.Fields.{Fields}
@@ -22,37 +23,37 @@ use Rattle.laws.proofs.Written.{header-length, entries-length, front-length, as
 use Rattle.promises.proofs.Laid.{Layout, between}
 
 -- the numbers that a header holds
-abbrev pub fieldsFor : PcmSpec → ℕ → ℕ → ℕ → Fields
+abbrev pub fieldsFor : PcmSpec → Frames → ℕ → ℕ → Fields
 fieldsFor p frames start size = record { channels = p .channels; depth = p .«bits_per_sample»; rate = p .«sample_rate»; frames = frames; table = 120; start = start; size = size }
 
 -- numbers that their bytes hold
-pub record Small (p : PcmSpec) (frames start size : ℕ) : Type 0 where
+pub record Small (p : PcmSpec) (frames : Frames) (start size : ℕ) : Type 0 where
   pub channels-16 : p .channels < 65536
   pub bits-16 : p .«bits_per_sample» < 65536
   pub rate-32 : p .«sample_rate» < 4294967296
-  pub frames-32 : frames < 4294967296
+  pub frames-32 : frames .0 < 4294967296
   pub start-32 : start < 4294967296
   pub size-32 : size < 4294967296
 
-pub header-fields : (p : PcmSpec) (frames start size : ℕ) (t : List ℕ) → Small p frames start size → fieldsOf (header p frames start size ++ t) ≡ fieldsFor p frames start size
-unfolding fieldsOf numAt from header signature le digits
+pub header-fields : (p : PcmSpec) (frames : Frames) (start size : ℕ) (t : List ℕ) → Small p frames start size → fieldsOf (headerBytes p frames start size ++ t) ≡ fieldsFor p frames start size
+unfolding fieldsOf numAt from headerBytes signature le digits
 header-fields p frames start size t s =
     λ i. record {
       channels = num-le 2 (p .channels) (s .channels-16) i;
       depth = num-le 2 (p .«bits_per_sample») (s .bits-16) i;
       rate = num-le 4 (p .«sample_rate») (s .rate-32) i;
-      frames = num-le 4 frames (s .frames-32) i;
+      frames = record { 0 = num-le 4 (frames .0) (s .frames-32) i };
       table = num-le 4 120 (omega arith) i;
       start = num-le 4 start (s .start-32) i;
       size = num-le 4 size (s .size-32) i;
     }
 
-pub header-signature : (p : PcmSpec) (frames start size : ℕ) (t : List ℕ) → isSignature (header p frames start size ++ t) ≡ true
-unfolding header signature isSignature same
+pub header-signature : (p : PcmSpec) (frames : Frames) (start size : ℕ) (t : List ℕ) → isSignature (headerBytes p frames start size ++ t) ≡ true
+unfolding headerBytes signature isSignature same
 header-signature p frames start size t = refl
 
 -- ---- the assembled file of the groups part 0, part 1, ..
-module _ (p : PcmSpec) (frames : ℕ) (part : ℕ → List ℕ) where
+module _ (p : PcmSpec) (frames : Frames) (part : ℕ → List ℕ) where
   abbrev pub count : ℕ
   count = groupsOf frames
 
@@ -82,26 +83,26 @@ module _ (p : PcmSpec) (frames : ℕ) (part : ℕ → List ℕ) where
     pub entry-is : (k : ℕ) → k ≤ count → entry file head k ≡ length (joined part k)
     unfolding entry numAt assembled tableOf
     entry-is k l =
-        ap (num 256) (part-at (λ g. le 4 (length (joined part g))) k (count + 1) (120 + 4 * k) 4 (header p frames first total) (joined part count) (omega arith)
+        ap (num 256) (part-at (λ g. le 4 (length (joined part g))) k (count + 1) (120 + 4 * k) 4 (headerBytes p frames first total) (joined part count) (omega arith)
         (omega (arith, header-length p frames first total, entries-length part k)) (sym (length-le 4 (length (joined part k)))))
         ∙ num-le 4 (length (joined part k)) (omega (arith, length-mono part k count l, small .size-32))
 
-    front-is : length (header p frames first total ++ tableOf part count) ≡ first
+    front-is : length (headerBytes p frames first total ++ tableOf part count) ≡ first
     front-is = front-length p frames first total part
 
-    file-is : file ≡ (header p frames first total ++ tableOf part count) ++ joined part count
+    file-is : file ≡ (headerBytes p frames first total ++ tableOf part count) ++ joined part count
     unfolding assembled
-    file-is = sym (append-assoc (header p frames first total) (tableOf part count) (joined part count))
+    file-is = sym (append-assoc (headerBytes p frames first total) (tableOf part count) (joined part count))
 
     -- what follows the data offset
     pub data-is : drop first file ≡ joined part count
-    data-is = ap (drop first) file-is ∙ drop-at (header p frames first total ++ tableOf part count) (joined part count) first front-is
+    data-is = ap (drop first) file-is ∙ drop-at (headerBytes p frames first total ++ tableOf part count) (joined part count) first front-is
 
     -- group g's bytes
-    pub group-is : (g : ℕ) → g < count → group file head g ≡ part g
-    unfolding group
+    pub group-is : (g : ℕ) → g < count → groupBytes file head g ≡ part g
+    unfolding groupBytes
     group-is g l =
-        let a = header p frames first total ++ tableOf part count in
+        let a = headerBytes p frames first total ++ tableOf part count in
         let e : file ≡ a ++ (joined part count ++ []) = file-is ∙ ap (λ (x : List ℕ). a ++ x) (sym (append-nil (joined part count))) in
         ap (from (first + entry file head g) (entry file head (g + 1) - entry file head g)) e
         ∙ between part g count first (entry file head g) (entry file head (g + 1)) a [] l front-is (entry-is g (omega arith)) (entry-is (g + 1) (omega arith))

@@ -8,8 +8,8 @@ use Rattle.format.specs.Lists.{over}
 use Rattle.format.specs.Numbers.{Below}
 use Rattle.format.specs.Answers.{filled, wrote}
 use Rattle.format.specs.Decoding.{decodedOf}
-use Rattle.format.specs.Encoding.{fileOf, checkEncode, checkEncodeInto, encodeOf, encodeInto}
-use Rattle.format.specs.Reencoding.{checkReencode, checkReencodeInto, refileOf, reencodeOf, reencodeInto}
+use Rattle.format.specs.Encoding.{encodedFile, checkEncode, checkEncodeInto, encodeOf, encodeInto}
+use Rattle.format.specs.Reencoding.{checkReencode, checkReencodeInto, reencodedFile, reencodeOf, reencodeInto}
 use Rattle.format.specs.Promises.{Encodes, Reencodes}
 use Rattle.format.specs.declared.refusals.Checked.{Checked}
 use Rattle.format.specs.declared.refusals.Checked.the-variants.{Fine}
@@ -26,19 +26,19 @@ use Rattle.promises.proofs.Refile as Refile
 module _ (p : PcmSpec) (mode : StereoMode) (s : List ℤ) (lent file : List ℕ) (n : ℕ) (e : Encodes p mode s lent (wrote n) file) where
   into-fine : checkEncodeInto p mode s (length lent) ≡ Fine
   unfolding encodeOf
-  into-fine = wrote-fine (checkEncodeInto p mode s (length lent)) (length (fileOf p mode s)) n (e .0)
+  into-fine = wrote-fine (checkEncodeInto p mode s (length lent)) (length (encodedFile p mode s)) n (e .0)
 
   pub encode-ok : checkEncode p mode s ≡ Fine
   unfolding checkEncodeInto
   encode-ok = first-fine _ _ into-fine
 
-  pub file-long : n ≡ length (fileOf p mode s)
+  pub file-long : n ≡ length (encodedFile p mode s)
   unfolding encodeOf
-  file-long = wrote-length (checkEncodeInto p mode s (length lent)) (length (fileOf p mode s)) n (e .0)
+  file-long = wrote-length (checkEncodeInto p mode s (length lent)) (length (encodedFile p mode s)) n (e .0)
 
-  pub file-written : take n file ≡ fileOf p mode s
+  pub file-written : take n file ≡ encodedFile p mode s
   unfolding encodeInto
-  file-written = written-front (checkEncodeInto p mode s (length lent)) n (fileOf p mode s) lent file into-fine file-long (e .1)
+  file-written = written-front (checkEncodeInto p mode s (length lent)) n (encodedFile p mode s) lent file into-fine file-long (e .1)
 
   -- they decode to the samples
   pub file-tells : p .«sample_rate» < 2 ^ 32 → decodedOf (take n file) ≡ s
@@ -58,13 +58,13 @@ module _ (p : PcmSpec) (s : List ℤ) (t lent file : List ℕ) (n : ℕ) (e : Re
   unfolding reencodeOf
   as-long = wrote-length (checkReencodeInto p s t (length lent)) (length t) n (e .0)
 
-  pub new-file : take n file ≡ refileOf s t
+  pub new-file : take n file ≡ reencodedFile s t
   unfolding reencodeInto
-  new-file = written-front (checkReencodeInto p s t (length lent)) n (refileOf s t) lent file into-ok (as-long ∙ sym (same-length p s t reencode-ok)) (e .1)
+  new-file = written-front (checkReencodeInto p s t (length lent)) n (reencodedFile s t) lent file into-ok (as-long ∙ sym (same-length p s t reencode-ok)) (e .1)
 
-  new-lies : file ≡ over (refileOf s t) lent
+  new-lies : file ≡ over (reencodedFile s t) lent
   unfolding reencodeInto
-  new-lies = e .1 ∙ ap (λ (c : Checked). filled c (refileOf s t) lent) into-ok
+  new-lies = e .1 ∙ ap (λ (c : Checked). filled c (reencodedFile s t) lent) into-ok
 
   -- with what the template decodes to, that is the template
   pub template-written : Below 256 t → s ≡ decodedOf t → NoneLeaves t → (n ≡ length t) × (file ≡ over t lent)

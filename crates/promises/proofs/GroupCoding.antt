@@ -11,8 +11,9 @@ use borrow.Author.Tests.{eqb-true}
 use Rattle.format.specs.Lists.{joined}
 use Rattle.format.specs.Blocks.{isBlock, midBit, floatBit}
 use Rattle.format.specs.MidSide.{leftRight}
-use Rattle.format.specs.Decoding.{checkGroup, coded, channelsOf, woven, active, groupSamples}
-use Rattle.format.specs.Encoding.{blockOf, midSide, parity, channel, plain, split, blocks, takesMid, groupOf}
+use Rattle.format.specs.Units.{active}
+use Rattle.format.specs.Decoding.{checkGroup, coded, channelsOf, woven, groupSamples}
+use Rattle.format.specs.Encoding.{encodedBlock, midSide, parity, channel, unwoven, paddedChannels, blocks, takesMid, encodedGroup}
 use Rattle.format.specs.declared.refusals.Checked.the-variants.{Fine}
 use Rattle.format.specs.declared.settings.SampleFormat.the-variants.{Pcm}
 use Rattle.format.specs.declared.settings.PcmSpec.{PcmSpec}
@@ -43,7 +44,7 @@ module _ (h : Fields) (g flags : ℕ) (chans : List (List ℤ)) (some : 1 ≤ h 
   X c = getD chans c []
 
   abbrev B : ℕ → List ℕ
-  B c = blockOf (h .depth) flags (X c)
+  B c = encodedBlock (h .depth) flags (X c)
 
   reads : (c : ℕ) → c < h .channels → Reads (h .depth) flags (X c) (B c)
   reads c l = block-reads (h .depth) flags low high (omega arith) (X c) (level .long c l) (level .hold c l)
@@ -70,8 +71,8 @@ module _ (h : Fields) (g flags : ℕ) (chans : List (List ℤ)) (some : 1 ≤ h 
       })
 
 -- where mid/side is taken, it can be
-mid-when : (mode : StereoMode) (n depth : ℕ) (s : List ℤ) → takesMid mode n depth s ≡ true → (mode ≡ MidSide → (n ≡ 2) × (parity (plain n s) ≡ true))
-    → (n ≡ 2) × (parity (plain n s) ≡ true)
+mid-when : (mode : StereoMode) (n depth : ℕ) (s : List ℤ) → takesMid mode n depth s ≡ true → (mode ≡ MidSide → (n ≡ 2) × (parity (unwoven n s) ≡ true))
+    → (n ≡ 2) × (parity (unwoven n s) ≡ true)
 unfolding takesMid
 mid-when Direct n depth s e ms = never (sym e)
 mid-when MidSide n depth s e ms = ms refl
@@ -87,7 +88,7 @@ module _ (p : PcmSpec) (mode : StereoMode) (h : Fields) (ec : h .channels ≡ p 
   k = active (h .frames) g
 
   abbrev chans : List (List ℤ)
-  chans = split n s
+  chans = paddedChannels n s
 
   few : k ≤ 512
   few = active-low (h .frames) g
@@ -104,7 +105,7 @@ module _ (p : PcmSpec) (mode : StereoMode) (h : Fields) (ec : h .channels ≡ p 
       (ap (woven k) (both-back (h .depth) n 512 high two chans level even) ∙ woven-split n k some few s l)
 
   -- the padded frames have the parity of the last
-  split-even : n ≡ 2 → parity (plain n s) ≡ true → parity chans ≡ true
+  split-even : n ≡ 2 → parity (unwoven n s) ≡ true → parity chans ≡ true
   unfolding parity
   split-even two e =
       let len = channel-length n k some s l in
@@ -112,15 +113,15 @@ module _ (p : PcmSpec) (mode : StereoMode) (h : Fields) (ec : h .channels ≡ p 
       subst₂ Even (sym (split-is n k some s l few 0 (omega arith))) (sym (split-is n k some s l few 1 (omega arith))) q
 
   -- in every mode it reads as s; what MidSide asks was checked
-  pub group-codes : (mode ≡ MidSide → (p .channels ≡ 2) × (parity (plain (p .channels) s) ≡ true)) → Group h g s (groupOf p mode s)
-  unfolding groupOf
+  pub group-codes : (mode ≡ MidSide → (p .channels ≡ 2) × (parity (unwoven (p .channels) s) ≡ true)) → Group h g s (encodedGroup p mode s)
+  unfolding encodedGroup
   group-codes ms =
-      subst (λ (d : ℕ). Group h g s (cond (takesMid mode (p .channels) d s) (blocks d 1 (midSide (split (p .channels) s))) (blocks d 0 (split (p .channels) s)))) ed
-      (subst (λ (k : ℕ). Group h g s (cond (takesMid mode k (h .depth) s) (blocks (h .depth) 1 (midSide (split k s))) (blocks (h .depth) 0 (split k s)))) ec
+      subst (λ (d : ℕ). Group h g s (cond (takesMid mode (p .channels) d s) (blocks d 1 (midSide (paddedChannels (p .channels) s))) (blocks d 0 (paddedChannels (p .channels) s)))) ed
+      (subst (λ (k : ℕ). Group h g s (cond (takesMid mode k (h .depth) s) (blocks (h .depth) 1 (midSide (paddedChannels k s))) (blocks (h .depth) 0 (paddedChannels k s)))) ec
       (by (takesMid mode n (h .depth) s) refl))
     where
       by : (t : Bool) → takesMid mode n (h .depth) s ≡ t → Group h g s (cond t (blocks (h .depth) 1 (midSide chans)) (blocks (h .depth) 0 chans))
       by true e =
-          let q = mid-when mode n (h .depth) s e (λ m. let x = ms m in (ec ∙ x .0, subst (λ (k : ℕ). parity (plain k s) ≡ true) (sym ec) (x .1))) in
+          let q = mid-when mode n (h .depth) s e (λ m. let x = ms m in (ec ∙ x .0, subst (λ (k : ℕ). parity (unwoven k s) ≡ true) (sym ec) (x .1))) in
           both (q .0) (split-even (q .0) (q .1))
       by false e = direct

@@ -11,7 +11,7 @@ use lib.Dec.{ltb, eqb, eqb·suc-zero}
 use borrow.Author.Tests.{le-ltb, eq-eqb}
 use Rattle.format.specs.Lists.{tab, joined}
 use Rattle.format.specs.Numbers.{numAt}
-use Rattle.format.specs.Blocks.{isBlock, midBit, floatBit, sizeOf, samplesOf, rest}
+use Rattle.format.specs.Blocks.{isBlock, midBit, floatBit, sizeOf, samplesOf, fromBlock}
 use Rattle.format.specs.Decoding.{isFloat, checkBlock, checkGroup, coded}
 use Rattle.format.specs.declared.refusals.Checked.the-variants.{Fine}
 use Rattle.format.specs.declared.settings.SampleFormat.the-variants.{Pcm}
@@ -36,8 +36,8 @@ module _ (h : Fields) (flags : ℕ → ℕ) (X : ℕ → List ℤ) (B : ℕ → 
       (i .0, ap (drop (length (joined B c))) (i .1) ∙ drop-at (joined B c) (B c ++ i .0) (length (joined B c)) refl)
 
   -- what is left after c blocks
-  pub rest-is : (c : ℕ) → c ≤ h .channels → rest (h .depth) all c ≡ drop (length (joined B c)) all
-  unfolding rest joined
+  pub rest-is : (c : ℕ) → c ≤ h .channels → fromBlock (h .depth) all c ≡ drop (length (joined B c)) all
+  unfolding fromBlock joined
   rest-is zero l = refl
   rest-is (suc c) l =
       let b = begins c l in
@@ -48,14 +48,14 @@ module _ (h : Fields) (flags : ℕ → ℕ) (X : ℕ → List ℤ) (B : ℕ → 
       ∙ ap (λ (n : ℕ). drop n all) (sym (length-append (joined B c) (B c)))
 
   -- begins with block c
-  pub front : (c : ℕ) → c < h .channels → (t : List ℕ) × (rest (h .depth) all c ≡ B c ++ t)
+  pub front : (c : ℕ) → c < h .channels → (t : List ℕ) × (fromBlock (h .depth) all c ≡ B c ++ t)
   front c l = let b = begins c l in (b .0, rest-is c (omega arith) ∙ b .1)
 
   -- the channels' samples
   pub coded-is : coded (h .depth) (h .channels) all ≡ tab (h .channels) X
   unfolding coded
   coded-is =
-      tab-cong (h .channels) (λ c. samplesOf (h .depth) (rest (h .depth) all c)) X
+      tab-cong (h .channels) (λ c. samplesOf (h .depth) (fromBlock (h .depth) all c)) X
       (λ c l. let f = front c l in ap (samplesOf (h .depth)) (f .1) ∙ reads c l .samples (f .0))
 
   -- nothing is refused: PCM, and flags 1 only for two channels
@@ -81,17 +81,17 @@ module _ (h : Fields) (flags : ℕ → ℕ) (X : ℕ → List ℤ) (B : ℕ → 
     pub group-fine : checkGroup h Pcm all ≡ Fine
     unfolding checkGroup
     group-fine =
-        in-order (λ c. checkBlock h Pcm c (rest (h .depth) all c)) (h .channels) (λ c l. let f = front c l in ap (checkBlock h Pcm c) (f .1) ∙ block-fine c l (f .0))
+        in-order (λ c. checkBlock h Pcm c (fromBlock (h .depth) all c)) (h .channels) (λ c l. let f = front c l in ap (checkBlock h Pcm c) (f .1) ∙ block-fine c l (f .0))
         and-then pass _ _ (ap (λ (r : List ℕ). not (eqb (length r) 0)) (rest-is (h .channels) (omega arith) ∙ drop-length all))
 
   -- the first block's mark and flags are the group's, whatever follows
   module _ (some : 1 ≤ h .channels) where
     pub first-flags : numAt 10 2 all ≡ flags 0
-    unfolding rest
+    unfolding fromBlock
     first-flags = let f = front 0 some in ap (numAt 10 2) (f .1) ∙ reads 0 some .flags-word (f .0)
 
     starts : (t : List ℕ) → (u : List ℕ) × (all ++ t ≡ B 0 ++ u)
-    unfolding rest
+    unfolding fromBlock
     starts t = let f = front 0 some in (f .0 ++ t, ap (λ (x : List ℕ). x ++ t) (f .1) ∙ append-assoc (B 0) (f .0) t)
 
     pub first-mark : (t : List ℕ) → isBlock (all ++ t) ≡ true

@@ -10,8 +10,8 @@ use Rattle.format.specs.Numbers.{Below}
 use Rattle.format.specs.Refusals.{_then_}
 use Rattle.format.specs.Answers.{answered, filled, wrote}
 use Rattle.format.specs.Decoding.{checkDecode, decodedOf, decodedCount, checkRoom, decodeOf}
-use Rattle.format.specs.Encoding.{fileOf, checkEncodeInto, encodeOf, encodeInto}
-use Rattle.format.specs.Reencoding.{checkReencodeInto, refileOf, reencodeOf, reencodeInto}
+use Rattle.format.specs.Encoding.{encodedFile, checkEncodeInto, encodeOf, encodeInto}
+use Rattle.format.specs.Reencoding.{checkReencodeInto, reencodedFile, reencodeOf, reencodeInto}
 use Rattle.format.specs.Boundary.{samplesFrom, sampleBytes, modeOf, checkMode, checkBytes, result, hostDecode, hostDecodeInto, checkHostEncode, hostEncode, hostEncodeInto, checkHostReencode, hostReencode, hostReencodeInto}
 use Rattle.format.specs.Promises.{Encodes, Reencodes, HostDecodes, HostEncodes, HostReencodes}
 use Rattle.format.specs.declared.refusals.Checked.{Checked}
@@ -48,7 +48,7 @@ module _ (b : List ℕ) (p : PcmSpec) (mode : ℕ) (lent : List ℕ) (n : ℕ) (
   pub host-encoded : Encodes p (modeOf mode) (samplesFrom b) lent (wrote n) file
   unfolding hostEncode hostEncodeInto encodeOf encodeInto
   host-encoded =
-      let new = fileOf p (modeOf mode) (samplesFrom b) in
+      let new = encodedFile p (modeOf mode) (samplesFrom b) in
       told-wrote (checkHostEncode b p mode (length lent)) (checkEncodeInto p (modeOf mode) (samplesFrom b) (length lent)) (length new) n new lent file short (e .0) (e .1)
       (others-fine (checkBytes b) _ encode-rest)
 
@@ -64,7 +64,7 @@ module _ (b : List ℕ) (p : PcmSpec) (t lent : List ℕ) (n : ℕ) (file : List
   pub host-reencoded : Reencodes p (samplesFrom b) t lent (wrote n) file
   unfolding hostReencode hostReencodeInto reencodeOf reencodeInto
   host-reencoded =
-      told-wrote (checkHostReencode b p t (length lent)) (checkReencodeInto p (samplesFrom b) t (length lent)) (length t) n (refileOf (samplesFrom b) t) lent file short (e .0) (e .1)
+      told-wrote (checkHostReencode b p t (length lent)) (checkReencodeInto p (samplesFrom b) t (length lent)) (length t) n (reencodedFile (samplesFrom b) t) lent file short (e .0) (e .1)
       (others-fine (checkBytes b) _ reencode-rest)
 
 -- decoding the file f read n bytes: they are those of its samples

@@ -14,8 +14,8 @@ use Rattle.format.specs.Refusals.{_then_}
 use Rattle.format.specs.Answers.{answered}
 use Rattle.format.specs.Opening.{headerOf, openOf}
 use Rattle.format.specs.Decoding.{checkDecode, decodedOf}
-use Rattle.format.specs.Encoding.{fileOf, checkEncoder, checkSamples, checkEncode, checkEncodeInto}
-use Rattle.format.specs.Reencoding.{refileOf}
+use Rattle.format.specs.Encoding.{encodedFile, checkEncoder, checkSamples, checkEncode, checkEncodeInto}
+use Rattle.format.specs.Reencoding.{reencodedFile}
 use Rattle.format.specs.Boundary.{samplesFrom, isMode, modeOf, checkMode, checkBytes, result, hostOpen, checkHostEncode, hostEncode}
 use Rattle.format.specs.Promises.{HostOpens, HostDecodes, HostEncodes, HostReencodes}
 use Rattle.format.specs.declared.refusals.Refusal.the-variants.{OutputTooShort}
@@ -52,7 +52,7 @@ host-there-and-back b p mode lent file n out after r byte rate e short room d =
     let s = samplesFrom b in
     let i = host-encoded b p mode lent n file e short in
     let ok = encode-ok p (modeOf mode) s lent file n i in
-    gives-bytes b (encode-whole b p mode lent n file e short) (fileOf p (modeOf mode) s) out after r byte (RoundTrip.decodes p (modeOf mode) s ok rate) (RoundTrip.gives-back p (modeOf mode) s ok rate) room
+    gives-bytes b (encode-whole b p mode lent n file e short) (encodedFile p (modeOf mode) s) out after r byte (RoundTrip.decodes p (modeOf mode) s ok rate) (RoundTrip.gives-back p (modeOf mode) s ok rate) room
     (subst (λ (f : List ℕ). HostDecodes f out r after) (file-written p (modeOf mode) s lent file n i) d)
 
 -- ---- 2. PARITY
@@ -67,7 +67,7 @@ pub host-parity-exactly : (b : List ℕ) (p : PcmSpec) (lent after : List ℕ) (
 unfolding hostEncode checkHostEncode checkMode isMode checkBytes modeOf checkEncodeInto
 host-parity-exactly b p lent after r two whole short e =
     let s = samplesFrom b in
-    let file = fileOf p MidSide s in
+    let file = encodedFile p MidSide s in
     let c = checkEncodeInto p MidSide s (length lent) in
     let inner : checkHostEncode b p 2 (length lent) ≡ c = pass _ _ refl and-then pass _ _ (ap not (eq-eqb (length b % 4) 0 whole)) and-then refl in
     let few : c ≡ Fine → length file < 2 ^ 63 = λ fine. let l = has-room (checkEncode p MidSide s) (length lent) (length file) OutputTooShort fine in omega arith in
@@ -90,7 +90,7 @@ host-law-one b p t lent file n out after r byte e short room d =
     let s = samplesFrom b in
     let i = host-reencoded b p t lent n file e short in
     let ok = reencode-ok p s t lent file n i in
-    gives-bytes b (reencode-whole b p t lent n file e short) (refileOf s t) out after r byte (Refile.decodes p s t ok) (Refile.gives-back p s t ok) room
+    gives-bytes b (reencode-whole b p t lent n file e short) (reencodedFile s t) out after r byte (Refile.decodes p s t ok) (Refile.gives-back p s t ok) room
     (subst (λ (f : List ℕ). HostDecodes f out r after) (new-file p s t lent file n i) d)
 
 -- ---- 4. LAW TWO: the new file serves as template exactly as the old one did
@@ -106,7 +106,7 @@ host-law-two b p t lent file n c q room after after′ r r′ e short old new =
     let s = samplesFrom b in
     let i = host-reencoded b p t lent n file e short in
     let ok = reencode-ok p s t lent file n i in
-    let moved : HostReencodes c q (refileOf s t) room r′ after′ = subst (λ (f : List ℕ). HostReencodes c q f room r′ after′) (new-file p s t lent file n i) new in
+    let moved : HostReencodes c q (reencodedFile s t) room r′ after′ = subst (λ (f : List ℕ). HostReencodes c q f room r′ after′) (new-file p s t lent file n i) new in
     (old .0 ∙ sym (host-says-same p s t ok c q room) ∙ sym (moved .0), old .1 ∙ sym (host-leaves-same p s t ok c q room) ∙ sym (moved .1))
 
 -- ---- 5. LAW THREE: a template with its own samples is itself

@@ -13,7 +13,7 @@ use Rattle.format.specs.Numbers.{Below, holds}
 use Rattle.format.specs.Header.{fieldsOf, entry}
 use Rattle.format.specs.Answers.{answeredBy, refusedBy, read, wrote}
 use Rattle.format.specs.Decoding.{decodeOf, decodeInto, decodedOf}
-use Rattle.format.specs.Encoding.{fileOf, encodeOf, encodeInto}
+use Rattle.format.specs.Encoding.{encodedFile, encodeOf, encodeInto}
 use Rattle.format.specs.Reencoding.{reencodeOf, reencodeInto}
 use Rattle.format.specs.Promises.{Decodes, Encodes, Reencodes}
 use Rattle.format.specs.declared.refusals.Refusal.{Refusal}
@@ -96,7 +96,7 @@ pub record Fall : Type 0 where
   pub idle-reencoder : (e : Reencoder) → EachReencoding (λ p s t lent. e .leaves p s t lent ≡ lent) → ⊥
   -- treats only the first group, and leaves what lies after it
   pub first-decoder : (d : Decoder) → EachDecoding (λ s lent. drop (firstSamples s) (d .leaves s lent) ≡ drop (firstSamples s) lent) → ⊥
-  pub first-encoder : (e : Encoder) → EachEncoding (λ p mode s lent. let end = firstBytes (fileOf p mode s) in drop end (e .leaves p mode s lent) ≡ drop end lent) → ⊥
+  pub first-encoder : (e : Encoder) → EachEncoding (λ p mode s lent. let end = firstBytes (encodedFile p mode s) in drop end (e .leaves p mode s lent) ≡ drop end lent) → ⊥
   pub first-reencoder : (e : Reencoder) → EachReencoding (λ p s t lent. drop (firstBytes t) (e .leaves p s t lent) ≡ drop (firstBytes t) lent) → ⊥
 
 -- ---- some calls, computed
@@ -112,7 +112,7 @@ abbrev many : ℕ → List ℤ
 many x = replicate 513 (pos x)
 
 abbrev two-groups : List ℕ
-two-groups = fileOf mono Auto (many 1)
+two-groups = encodedFile mono Auto (many 1)
 
 abbrev room : List ℕ
 room = replicate 420 0
@@ -238,7 +238,7 @@ module _ (e : Encoder) where
   encoder-not-idle h =
       differ 1 0 refl (sym (computed .begins) ∙ ap (λ (l : List ℕ). getD l 0 9) (sym (written (one 5) (computed .words-5) .1) ∙ h mono Auto (one 5) room of-types (computed .words-5) (computed .bytes-room)))
 
-  encoder-not-first : EachEncoding (λ p mode s lent. let end = firstBytes (fileOf p mode s) in drop end (e .leaves p mode s lent) ≡ drop end lent) → ⊥
+  encoder-not-first : EachEncoding (λ p mode s lent. let end = firstBytes (encodedFile p mode s) in drop end (e .leaves p mode s lent) ≡ drop end lent) → ⊥
   encoder-not-first h =
       differ 0x16 0 refl
       (sym (computed .second-mark) ∙ ap (λ (l : List ℕ). getD (drop (firstBytes two-groups) l) 0 9) (sym (written (many 1) (computed .many-1) .1))

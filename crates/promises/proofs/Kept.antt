@@ -12,12 +12,12 @@ use mir.Syntax.{w32}
 use mir.Val.{SFits}
 use Rattle.format.specs.Lists.{from}
 use Rattle.format.specs.Numbers.{num, Below, le, numAt, value, codeOf}
-use Rattle.format.specs.Packed.{widthOf, codes, values, packing, rebuilt, isBeyond}
+use Rattle.format.specs.Packed.{widthOf, codesIn, values, packing, rebuilt, isBeyond}
 use Rattle.format.specs.declared.packed.Coding.{Coding}
 use Rattle.format.specs.declared.packed.Coding.the-variants.{Differences, Raw, Beyond}
 use Rattle.format.specs.Blocks.{baseOf, bitsOf, codingOf, sizeOf, decoded, samplesOf}
-use Rattle.format.specs.Encoding.{differences, head0}
-use Rattle.format.specs.Reencoding.{newValues, valuesFor, baseFor, newBlock}
+use Rattle.format.specs.Encoding.{differences, firstValue}
+use Rattle.format.specs.Reencoding.{newValues, valuesFor, baseFor, reencodedBlock}
 use Rattle.laws.proofs.Lengths.{length-values}
 use Rattle.laws.proofs.Tests.{never}
 use Rattle.laws.proofs.Parts.{length-from, meet}
@@ -33,15 +33,15 @@ use Rattle.promises.proofs.Bytes.{below-from}
 values-hold : (b : ℕ) (s : List ℕ) → 1 ≤ b → AllHold b (values b s)
 unfolding values
 values-hold b s l i =
-    let vs = map (value b) (codes b s) in
-    let e : getD vs i (pos 0) ≡ value b (getD (codes b s) i 0) = ap (getD vs i) (sym (value-pos b 0 (pow-pos (b - 1)))) ∙ List·getD-map (value b) (codes b s) i 0 in
-    rw e (value-holds b (getD (codes b s) i 0) l (codes-low b s i))
+    let vs = map (value b) (codesIn b s) in
+    let e : getD vs i (pos 0) ≡ value b (getD (codesIn b s) i 0) = ap (getD vs i) (sym (value-pos b 0 (pow-pos (b - 1)))) ∙ List·getD-map (value b) (codesIn b s) i 0 in
+    rw e (value-holds b (getD (codesIn b s) i 0) l (codes-low b s i))
 
 values-fit : (b : ℕ) (s : List ℕ) → 1 ≤ b → b ≤ 32 → Fit (values b s)
 values-fit b s l u = fit b u (values b s) (values-hold b s l)
 
-head-take : (n : ℕ) (base : ℤ) (vs : List ℤ) → 1 ≤ n → 1 ≤ length vs → head0 (take n (rebuilt base vs)) ≡ base
-unfolding head0 rebuilt
+head-take : (n : ℕ) (base : ℤ) (vs : List ℤ) → 1 ≤ n → 1 ≤ length vs → firstValue (take n (rebuilt base vs)) ≡ base
+unfolding firstValue rebuilt
 head-take zero base vs p q = absurd (omega arith)
 head-take (suc n) base [] p q = absurd (omega arith)
 head-take (suc n) base (v ∷ vs) p q = refl
@@ -69,7 +69,7 @@ module _ (base : ℤ) (fb : SFits w32 base) (run : List ℕ) (xs : List ℤ) (so
   base-kept (Raw b) r q z = refl
   base-kept (Differences b) r q z =
       let v = length-values b (take (64 * b) run) in
-      ap (λ (x : ℤ). le 4 (codeOf 32 x)) (ap head0 q ∙ head-take (length xs) base (values b (take (64 * b) run)) some (omega arith)) ∙ z
+      ap (λ (x : ℤ). le 4 (codeOf 32 x)) (ap firstValue q ∙ head-take (length xs) base (values b (take (64 * b) run)) some (omega arith)) ∙ z
   base-kept Beyond r q z = refl
 
 -- a template's block, with samples xs that it holds at its front
@@ -109,8 +109,8 @@ module _ (depth : ℕ) (low : 1 ≤ depth) (high : depth ≤ 32) (r : List ℕ) 
       ∙ packing-values b (take (64 * b) (drop 16 r)) l (below-from r byte 16 (64 * b))
 
   -- the new block is the template's
-  pub block-kept : newBlock depth r xs ≡ take (sizeOf depth r) r
-  unfolding newBlock sizeOf from baseOf
+  pub block-kept : reencodedBlock depth r xs ≡ take (sizeOf depth r) r
+  unfolding reencodedBlock sizeOf from baseOf
   block-kept =
       ap₂ (λ (x y : List ℕ). take 4 r ++ (x ++ (from 8 8 r ++ y))) (base-kept (baseOf r) (value-fits (numAt 4 4 r)) (drop 16 r) xs some c r own-is base-bytes) run-kept
       ∙ ap (λ (x : List ℕ). take 4 r ++ (from 4 4 r ++ x)) (meet 8 8 (64 * b) r)

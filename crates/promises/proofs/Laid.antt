@@ -9,7 +9,7 @@ use lib.Dec.{ltb, eqb, eqb·suc-zero}
 use borrow.Author.Tests.{le-ltb, eq-eqb, ne-eqb}
 use lib.IntN.{ℤ}
 use Rattle.format.specs.Lists.{joined, from}
-use Rattle.format.specs.Header.{isSignature, fieldsOf, groupsOf, entry, group}
+use Rattle.format.specs.Header.{isSignature, fieldsOf, groupsOf, entry, groupBytes}
 use Rattle.format.specs.Blocks.{isBlock, floatBit}
 use Rattle.format.specs.Units.{isDepth}
 use Rattle.format.specs.Refusals.{inOrder}
@@ -35,7 +35,7 @@ pub record Layout (s : List ℕ) (h : Fields) (part : ℕ → List ℕ) : Type 0
   pub offsets : checkOffsets h (length s) ≡ Fine
   pub size : h .size ≡ length (joined part (groupsOf (h .frames)))
   pub entries : (k : ℕ) → k ≤ groupsOf (h .frames) → entry s h k ≡ length (joined part k)
-  pub groups : (g : ℕ) → g < groupsOf (h .frames) → group s h g ≡ part g
+  pub groups : (g : ℕ) → g < groupsOf (h .frames) → groupBytes s h g ≡ part g
   pub after : List ℕ
   pub data-is : drop (h .start) s ≡ joined part (groupsOf (h .frames)) ++ after
 
@@ -129,14 +129,14 @@ module _ {s : List ℕ} {h : Fields} {part : ℕ → List ℕ} (lay : Layout s h
   unfolding checkDecode
   decode-fine =
       open-fine and-then (
-      ap (λ (x : Fields). inOrder (λ g. checkGroup x (formatOf s x) (group s x g)) (groupsOf (x .frames))) (lay .fields)
-      ∙ in-order (λ g. checkGroup h (formatOf s h) (group s h g)) count
+      ap (λ (x : Fields). inOrder (λ g. checkGroup x (formatOf s x) (groupBytes s x g)) (groupsOf (x .frames))) (lay .fields)
+      ∙ in-order (λ g. checkGroup h (formatOf s h) (groupBytes s h g)) count
       (λ g l. ap₂ (λ (f : SampleFormat) (bs : List ℕ). checkGroup h f bs) format-is (lay .groups g l) ∙ ok g l .fine))
 
   -- and gives the groups' samples
   pub decode-gives : decodedOf s ≡ joined xs count
   unfolding decodedOf
   decode-gives =
-      ap (λ (x : Fields). joined (λ g. groupSamples x (formatOf s x) g (group s x g)) (groupsOf (x .frames))) (lay .fields)
-      ∙ joined-cong (λ g. groupSamples h (formatOf s h) g (group s h g)) xs count
+      ap (λ (x : Fields). joined (λ g. groupSamples x (formatOf s x) g (groupBytes s x g)) (groupsOf (x .frames))) (lay .fields)
+      ∙ joined-cong (λ g. groupSamples h (formatOf s h) g (groupBytes s h g)) xs count
       (λ g l. ap₂ (λ (f : SampleFormat) (bs : List ℕ). groupSamples h f g bs) format-is (lay .groups g l) ∙ ok g l .samples)

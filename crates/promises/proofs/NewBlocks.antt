@@ -7,7 +7,7 @@ use mathlib.Core.Logic.{⊎-elim}
 use native.Mathlib.Omega.{arith}
 use lib.ListN.{length, getD, take, drop, length-append, length-drop, drop-of-length-le}
 use lib.Seq.{take-at, drop-at, length-take-le}
-use lib.IntN.{ℤ, pos, negsuc, _+ℤ_}
+use lib.IntN.{ℤ, pos, _+ℤ_, negℤ}
 use lib.Dec.{ltb}
 use mir.Syntax.{w32}
 use mir.Val.{SFits}
@@ -19,8 +19,8 @@ use Rattle.format.specs.declared.packed.Coding.{Coding}
 use Rattle.format.specs.declared.packed.Coding.the-variants.{Differences, Raw, Beyond}
 use Rattle.format.specs.Blocks.{blockMark, isBlock, baseOf, bitsOf, codingOf, sizeOf, decoded, samplesOf}
 use Rattle.format.specs.Refusals.{refuse}
-use Rattle.format.specs.Encoding.{differences, head0}
-use Rattle.format.specs.Reencoding.{newValues, valuesFor, baseFor, newBlock, checkNewBlock}
+use Rattle.format.specs.Encoding.{differences, firstValue}
+use Rattle.format.specs.Reencoding.{newValues, valuesFor, baseFor, reencodedBlock, checkReencodeBlock}
 use Rattle.format.specs.declared.refusals.Refusal.the-variants.{WidthTooSmall}
 use Rattle.laws.proofs.Lengths.{length-values, length-rebuilt}
 use Rattle.laws.proofs.Tests.{never}
@@ -133,9 +133,13 @@ newSamples depth r xs = xs ++ drop (length xs) (samplesOf depth r)
 pub value-fits : (n : ℕ) → SFits w32 (value 32 n)
 value-fits n = by (ltb n 2147483648) refl
   where
-    by : (t : Bool) → ltb n 2147483648 ≡ t → SFits w32 (cond t (pos n) (negsuc (4294967296 - suc n)))
+    minus : (m : ℕ) → m ≤ 2147483648 → SFits w32 (negℤ (pos m))
+    minus zero l = record { sfits = omega arith }
+    minus (suc m) l = record { sfits = omega arith }
+
+    by : (t : Bool) → ltb n 2147483648 ≡ t → SFits w32 (cond t (pos n) (negℤ (pos (4294967296 - n))))
     by true e = record { sfits = omega (arith, ltb-true n 2147483648 e) }
-    by false e = record { sfits = omega (arith, ltb-false n 2147483648 e) }
+    by false e = minus (4294967296 - n) (omega (arith, ltb-false n 2147483648 e))
 
 pub new-raw : (b : ℕ) (old : List ℤ) (run : List ℕ) (xs : List ℤ) → newValues (Raw b) old run xs ≡ xs ++ drop (length xs) (values b (take (64 * b) run))
 unfolding newValues
@@ -212,7 +216,7 @@ module _ (base : ℤ) (run t : List ℕ) where
 
   decode-new : SFits w32 base → (xs : List ℤ) → 1 ≤ length xs → (lx : length xs ≤ 512) → Fit xs → (k : Coding) (r : List ℕ) → isBeyond k ≡ false → 1 ≤ widthOf k → AllHold (widthOf k) (new xs lx k)
       → decoded k (value 32 (num 256 (baseFor k r xs))) (packing (widthOf k) (new xs lx k) ++ t) ≡ xs ++ drop (length xs) (decoded k base run)
-  unfolding decoded isBeyond widthOf baseFor head0
+  unfolding decoded isBeyond widthOf baseFor firstValue
   decode-new sb xs some lx fx (Raw b) r e w h = new-back xs lx (Raw b) refl w h ∙ new-raw b (values b (take (64 * b) run)) run xs
   decode-new sb [] some lx fx (Differences b) r e w h = absurd (omega arith)
   decode-new sb (x ∷ xs) some lx fx (Differences b) r e w h =
@@ -247,32 +251,32 @@ module _ (depth : ℕ) (low : 1 ≤ depth) (r : List ℕ) (xs : List ℤ) (some 
   unfolding codingOf
   wide = width-some depth (bitsOf r) low (ok .within)
 
-  long-is : length (newBlock depth r xs) ≡ sizeOf depth r
+  long-is : length (reencodedBlock depth r xs) ≡ sizeOf depth r
   long-is = new-length depth r xs (ok .head)
 
   -- bytes 8 to 15 stay
-  word-same : (t : List ℕ) (k n : ℕ) → k + n ≤ 8 → from (4 + (4 + k)) n (newBlock depth r xs ++ t) ≡ from (8 + k) n r
-  unfolding newBlock
+  word-same : (t : List ℕ) (k n : ℕ) → k + n ≤ 8 → from (4 + (4 + k)) n (reencodedBlock depth r xs ++ t) ≡ from (8 + k) n r
+  unfolding reencodedBlock
   word-same t k n h = part-word (take 4 r) base (from 8 8 r) pk la lb lw t k n h ∙ from-from k n 8 8 r h (ok .head)
 
-  coding-same : (t : List ℕ) → codingOf depth (newBlock depth r xs ++ t) ≡ c
+  coding-same : (t : List ℕ) → codingOf depth (reencodedBlock depth r xs ++ t) ≡ c
   unfolding codingOf bitsOf numAt
   coding-same t = ap (λ (l : List ℕ). coding depth (value 16 (num 256 l))) (word-same t 0 2 (omega arith))
 
-  base-new : (t : List ℕ) → from 4 4 (newBlock depth r xs ++ t) ≡ base
-  unfolding newBlock
+  base-new : (t : List ℕ) → from 4 4 (reencodedBlock depth r xs ++ t) ≡ base
+  unfolding reencodedBlock
   base-new t = part-base (take 4 r) base (from 8 8 r) pk la lb lw t
 
-  run-new : (t : List ℕ) → drop 16 (newBlock depth r xs ++ t) ≡ pk ++ t
-  unfolding newBlock
+  run-new : (t : List ℕ) → drop 16 (reencodedBlock depth r xs ++ t) ≡ pk ++ t
+  unfolding reencodedBlock
   run-new t = part-run (take 4 r) base (from 8 8 r) pk la lb lw t
 
-  mark-same : (t : List ℕ) → take 4 (newBlock depth r xs ++ t) ≡ take 4 r
-  unfolding newBlock
+  mark-same : (t : List ℕ) → take 4 (reencodedBlock depth r xs ++ t) ≡ take 4 r
+  unfolding reencodedBlock
   mark-same t = part-mark (take 4 r) base (from 8 8 r) pk la lb lw t
 
   -- reads as the new samples, and then the template's
-  pub new-reads : Reads depth (numAt 10 2 r) (newSamples depth r xs) (newBlock depth r xs)
+  pub new-reads : Reads depth (numAt 10 2 r) (newSamples depth r xs) (reencodedBlock depth r xs)
   unfolding samplesOf sizeOf isBlock numAt valuesFor baseOf
   new-reads =
       record {
@@ -282,7 +286,7 @@ module _ (depth : ℕ) (low : 1 ≤ depth) (r : List ℕ) (xs : List ℤ) (some 
         flags-word = λ t. ap (num 256) (word-same t 2 2 (omega arith));
         within = λ t. ap isBeyond (coding-same t) ∙ ok .within;
         samples = λ t.
-            ap (λ (k : Coding). decoded k (baseOf (newBlock depth r xs ++ t)) (drop 16 (newBlock depth r xs ++ t))) (coding-same t)
+            ap (λ (k : Coding). decoded k (baseOf (reencodedBlock depth r xs ++ t)) (drop 16 (reencodedBlock depth r xs ++ t))) (coding-same t)
             ∙ ap₂ (λ (l : List ℕ). decoded c (value 32 (num 256 l))) (base-new t) (run-new t)
             ∙ decode-new (baseOf r) (drop 16 r) t (value-fits (numAt 4 4 r)) xs some lx fx c r (ok .within) wide (ok .fit);
       }
@@ -290,7 +294,7 @@ module _ (depth : ℕ) (low : 1 ≤ depth) (r : List ℕ) (xs : List ℤ) (some 
   -- ---- the new block as a template's, with other samples, as many
   module _ (t : List ℕ) where
     abbrev again : List ℕ
-    again = newBlock depth r xs ++ t
+    again = reencodedBlock depth r xs ++ t
 
     pub values-same : (zs : List ℤ) → length zs ≡ length xs → valuesFor depth again zs ≡ valuesFor depth r zs
     unfolding valuesFor samplesOf
@@ -299,8 +303,8 @@ module _ (depth : ℕ) (low : 1 ≤ depth) (r : List ℕ) (xs : List ℤ) (some 
         ∙ ap₂ (λ (o : List ℤ) (l : List ℕ). newValues c o l zs) (new-reads .samples t) (run-new t)
         ∙ values-again (baseOf r) (drop 16 r) t xs lx zs q c (ok .within) wide (ok .fit)
 
-    pub block-same : (zs : List ℤ) → length zs ≡ length xs → newBlock depth again zs ≡ newBlock depth r zs
-    unfolding newBlock
+    pub block-same : (zs : List ℤ) → length zs ≡ length xs → reencodedBlock depth again zs ≡ reencodedBlock depth r zs
+    unfolding reencodedBlock
     block-same zs q =
         ap (λ (k : Coding). take 4 again ++ (baseFor k again zs ++ (from 8 8 again ++ packing (widthOf k) (valuesFor depth again zs)))) (coding-same t)
         ∙ ap₂ (λ (a b : List ℕ). a ++ (b ++ (from 8 8 again ++ packing (widthOf c) (valuesFor depth again zs)))) (mark-same t) (base-again c again r xs zs (base-new t))
@@ -310,7 +314,7 @@ module _ (depth : ℕ) (low : 1 ≤ depth) (r : List ℕ) (xs : List ℤ) (some 
     new-template : Template depth again xs
     unfolding numAt
     new-template =
-        let a = length-append (newBlock depth r xs) t in
+        let a = length-append (reencodedBlock depth r xs) t in
         record {
           head = omega (arith, new-reads .long);
           mark = new-reads .mark t;
@@ -321,7 +325,7 @@ module _ (depth : ℕ) (low : 1 ≤ depth) (r : List ℕ) (xs : List ℤ) (some 
           fit = rw (coding-same t, values-same xs refl) (ok .fit);
         }
 
-    pub check-same : (zs : List ℤ) → length zs ≡ length xs → checkNewBlock depth again zs ≡ checkNewBlock depth r zs
+    pub check-same : (zs : List ℤ) → length zs ≡ length xs → checkReencodeBlock depth again zs ≡ checkReencodeBlock depth r zs
     check-same zs q =
         fit-decides depth again xs zs new-template
         ∙ ap₂ (λ (k : Coding) (vs : List ℤ). refuse (not (every (holds (widthOf k)) vs)) WidthTooSmall) (coding-same t) (values-same zs q)

@@ -13,12 +13,13 @@ use lib.Dec.{ltb, eqb, eqb·suc-zero}
 use borrow.Author.Tests.{le-ltb}
 use Rattle.format.specs.Lists.{tab, joined, same}
 use Rattle.format.specs.Numbers.{num, numAt, Below}
-use Rattle.format.specs.Blocks.{blockMark, isBlock, midBit, floatBit, sizeOf, samplesOf, rest}
+use Rattle.format.specs.Blocks.{blockMark, isBlock, midBit, floatBit, sizeOf, samplesOf, fromBlock}
 use Rattle.format.specs.MidSide.{leftRight}
 use Rattle.format.specs.Refusals.{refuse}
-use Rattle.format.specs.Decoding.{isFloat, checkBlock, checkGroup, coded, channelsOf, woven, active, groupSamples}
-use Rattle.format.specs.Encoding.{plain, midSide, parity}
-use Rattle.format.specs.Reencoding.{newBlock, checkNewBlock, activeIn, checkNewGroup, newGroup}
+use Rattle.format.specs.Units.{active}
+use Rattle.format.specs.Decoding.{isFloat, checkBlock, checkGroup, coded, channelsOf, woven, groupSamples}
+use Rattle.format.specs.Encoding.{unwoven, midSide, parity}
+use Rattle.format.specs.Reencoding.{reencodedBlock, checkReencodeBlock, activeIn, checkReencodeGroup, reencodedGroup}
 use Rattle.format.specs.declared.refusals.Refusal.the-variants.{NotStereo, ParityDiffers, ShortGroup, TemplateBytesLeft}
 use Rattle.format.specs.declared.refusals.Checked.the-variants.{Fine}
 use Rattle.format.specs.declared.settings.SampleFormat.the-variants.{Pcm}
@@ -49,7 +50,7 @@ pub record Accepted (h : Fields) (g : ℕ) (bs : List ℕ) (s : List ℤ) : Type
   pub begun : 1 ≤ active (h .frames) g
   pub long : length s ≡ h .channels * active (h .frames) g
   pub hold : AllHold (h .depth) s
-  pub fine : checkNewGroup (h .depth) (h .channels) bs s ≡ Fine
+  pub fine : checkReencodeGroup (h .depth) (h .channels) bs s ≡ Fine
 
 module _ {h : Fields} {g : ℕ} {bs : List ℕ} {s : List ℤ} (ok : Accepted h g bs s) where
   abbrev k : ℕ
@@ -60,7 +61,7 @@ module _ {h : Fields} {g : ℕ} {bs : List ℕ} {s : List ℤ} (ok : Accepted h 
 
   -- what begins with the template's block of channel c
   abbrev r : ℕ → List ℕ
-  r c = rest (h .depth) bs c
+  r c = fromBlock (h .depth) bs c
 
   -- the active samples of the channels
   abbrev chans : List (List ℤ)
@@ -80,25 +81,25 @@ module _ {h : Fields} {g : ℕ} {bs : List ℕ} {s : List ℤ} (ok : Accepted h 
   none-left = T.none-left (h .depth) n bs s (ok .fine)
 
   -- ---- the active samples
-  abbrev chans-plain : midBit bs ≡ false → chans ≡ plain n s
+  abbrev chans-plain : midBit bs ≡ false → chans ≡ unwoven n s
   chans-plain = T.chans-plain (h .depth) n bs s (ok .fine)
 
-  abbrev chans-both : midBit bs ≡ true → chans ≡ midSide (plain n s)
+  abbrev chans-both : midBit bs ≡ true → chans ≡ midSide (unwoven n s)
   chans-both = T.chans-both (h .depth) n bs s (ok .fine)
 
-  plains : Level (h .depth) n k (plain n s)
+  plains : Level (h .depth) n k (unwoven n s)
   plains = plain-level n k (ok .some) s (ok .long) (h .depth) (ok .hold)
 
   level : Level (h .depth) n k chans
   level = by (midBit bs) refl
     where
       by : (t : Bool) → midBit bs ≡ t → Level (h .depth) n k chans
-      by true m = subst (Level (h .depth) n k) (sym (chans-both m)) (both-level (h .depth) n k (ok .high) (two-ok m) (plain n s) plains)
+      by true m = subst (Level (h .depth) n k) (sym (chans-both m)) (both-level (h .depth) n k (ok .high) (two-ok m) (unwoven n s) plains)
       by false m = subst (Level (h .depth) n k) (sym (chans-plain m)) plains
 
   -- ---- the blocks
   abbrev B : ℕ → List ℕ
-  B c = newBlock (h .depth) (r c) (getD chans c [])
+  B c = reencodedBlock (h .depth) (r c) (getD chans c [])
 
   abbrev X : ℕ → List ℤ
   X c = newSamples (h .depth) (r c) (getD chans c [])
@@ -120,7 +121,7 @@ module _ {h : Fields} {g : ℕ} {bs : List ℕ} {s : List ℤ} (ok : Accepted h 
 
   -- ---- it decodes to the samples
   flags-mid : midBit (joined B n) ≡ midBit bs
-  unfolding midBit rest
+  unfolding midBit fromBlock
   flags-mid = ap (λ (x : ℕ). eqb (x % 2) 1) (first-flags h flags X B reads (ok .some))
 
   -- sample i of channel c as it is coded
@@ -142,16 +143,16 @@ module _ {h : Fields} {g : ℕ} {bs : List ℕ} {s : List ℤ} (ok : Accepted h 
       (λ c i q p.
       frame-same i (tab n X) chans (λ d u. new-long d i (omega arith) p) (λ d u. omega (arith, level .long d (omega arith))) (λ d u. new-at d i (omega arith) p) c (omega arith)
       ∙ ap (λ (x : List (List ℤ)). getD (getD (leftRight Pcm x) c []) i (pos 0)) (chans-both m)
-      ∙ ap (λ (x : List (List ℤ)). getD (getD x c []) i (pos 0)) (both-back (h .depth) n k (ok .high) two (plain n s) plains (T.even-ok (h .depth) n bs s (ok .fine) m))
+      ∙ ap (λ (x : List (List ℤ)). getD (getD x c []) i (pos 0)) (both-back (h .depth) n k (ok .high) two (unwoven n s) plains (T.even-ok (h .depth) n bs s (ok .fine) m))
       ∙ plain-at n k (ok .some) s (ok .long) c i q p)
 
   mid-bit : flags 0 ≡ 1 → midBit bs ≡ true
-  unfolding midBit rest
+  unfolding midBit fromBlock
   mid-bit e = ap (λ (x : ℕ). eqb (x % 2) 1) e
 
   -- the new group reads as the samples
-  pub new-group : Group h g s (newGroup (h .depth) n bs s)
-  unfolding newGroup groupSamples channelsOf
+  pub new-group : Group h g s (reencodedGroup (h .depth) n bs s)
+  unfolding reencodedGroup groupSamples channelsOf
   new-group =
       record {
         fine = group-fine h flags X B reads (λ c q. blocks-ok c q .flags) (λ e. two-ok (mid-bit e));
@@ -167,7 +168,7 @@ module _ {h : Fields} {g : ℕ} {bs : List ℕ} {s : List ℤ} (ok : Accepted h 
 
   -- ---- the template's group itself is read
   first-only : (c : ℕ) → (eqb c 0 && (midBit (r c) && not (eqb n 2))) ≡ false
-  unfolding rest
+  unfolding fromBlock
   first-only zero = stereo-ok
   first-only (suc c) = ap (λ (b : Bool). b && (midBit (r (suc c)) && not (eqb n 2))) (eqb·suc-zero c)
 
@@ -183,12 +184,12 @@ module _ {h : Fields} {g : ℕ} {bs : List ℕ} {s : List ℤ} (ok : Accepted h 
       and-then pass _ _ (le-ltb (length (r c)) (sizeOf (h .depth) (r c)) (b .sized))
 
   template-long : 16 ≤ length bs
-  unfolding rest
+  unfolding fromBlock
   template-long = blocks-ok 0 (ok .some) .head
 
   -- the template's own group is read too
   pub template-group : Group h g (groupSamples h Pcm g bs) bs
-  unfolding checkGroup floatBit rest isBlock numAt
+  unfolding checkGroup floatBit fromBlock isBlock numAt
   template-group =
       record {
         fine = in-order (λ c. checkBlock h Pcm c (r c)) n block-accepts and-then pass _ _ (ap (λ (x : ℕ). not (eqb x 0)) none-left);
@@ -208,31 +209,31 @@ module _ {h : Fields} {g : ℕ} {bs : List ℕ} {s : List ℤ} (ok : Accepted h 
 
     others-same : activeIn n (joined B n) z ≡ others
     unfolding activeIn
-    others-same = ap (λ (t : Bool). cond t (midSide (plain n z)) (plain n z)) flags-mid
+    others-same = ap (λ (t : Bool). cond t (midSide (unwoven n z)) (unwoven n z)) flags-mid
 
     -- what is the same for each block, whatever lies after it, is the same in the group
     in-group : {A : Type 0} (F : List ℕ → List ℤ → A) (c : ℕ) → c < n → ((t : List ℕ) → F (B c ++ t) (getD others c []) ≡ F (r c) (getD others c []))
-        → F (rest (h .depth) (joined B n) c) (getD (activeIn n (joined B n) z) c []) ≡ F (r c) (getD others c [])
+        → F (fromBlock (h .depth) (joined B n) c) (getD (activeIn n (joined B n) z) c []) ≡ F (r c) (getD others c [])
     in-group F c q e = let f = front h flags X B reads c q in ap₂ F (f .1) (ap (λ (cs : List (List ℤ)). getD cs c []) others-same) ∙ e (f .0)
 
     -- is refused as the template's
-    pub group-checks-same : checkNewGroup (h .depth) n (newGroup (h .depth) n bs s) z ≡ checkNewGroup (h .depth) n bs z
-    unfolding checkNewGroup newGroup
+    pub group-checks-same : checkReencodeGroup (h .depth) n (reencodedGroup (h .depth) n bs s) z ≡ checkReencodeGroup (h .depth) n bs z
+    unfolding checkReencodeGroup reencodedGroup
     group-checks-same =
         ap (λ (x : ℕ). refuse (ltb x 12) ShortGroup) (T.new-group-length (h .depth) n bs s (ok .fine))
         then-same λ a. ap (λ (b : Bool). refuse (b && not (eqb n 2)) NotStereo) flags-mid
-        then-same λ a. ap (λ (b : Bool). refuse (b && not (parity (plain n z))) ParityDiffers) flags-mid
+        then-same λ a. ap (λ (b : Bool). refuse (b && not (parity (unwoven n z))) ParityDiffers) flags-mid
         then-same λ a. order-cong _ _ n
-        (λ c q. in-group (checkNewBlock (h .depth)) c q
+        (λ c q. in-group (checkReencodeBlock (h .depth)) c q
         (λ t. check-same (h .depth) (ok .low) (r c) (getD chans c []) (chan-some c q) (chan-few c q) (chan-fit c q) (blocks-ok c q) t (getD others c []) (others-long c q)))
         then-same λ a. ap (λ (x : ℕ). refuse (not (eqb x 0)) TemplateBytesLeft) (ap length (rest-is h flags X B reads n (omega arith) ∙ drop-length (joined B n)) ∙ sym none-left)
 
     -- and gives the same
-    pub group-same : newGroup (h .depth) n (newGroup (h .depth) n bs s) z ≡ newGroup (h .depth) n bs z
-    unfolding newGroup
+    pub group-same : reencodedGroup (h .depth) n (reencodedGroup (h .depth) n bs s) z ≡ reencodedGroup (h .depth) n bs z
+    unfolding reencodedGroup
     group-same =
         joined-cong _ _ n
-        (λ c q. in-group (newBlock (h .depth)) c q
+        (λ c q. in-group (reencodedBlock (h .depth)) c q
         (λ t. block-same (h .depth) (ok .low) (r c) (getD chans c []) (chan-some c q) (chan-few c q) (chan-fit c q) (blocks-ok c q) t (getD others c []) (others-long c q)))
 
   -- ---- with the template's own samples: S c are those of channel c as they are coded
@@ -270,7 +271,7 @@ module _ {h : Fields} {g : ℕ} {bs : List ℕ} {s : List ℤ} (ok : Accepted h 
       by false m = subst (Each Fit []) (sym (read-plain m)) coded-fit
 
   module _ (byte : Below 256 bs) (own : s ≡ groupSamples h Pcm g bs) (stay : midBit bs ≡ true → (i : ℕ) → i < k → Stays (h .depth) bs i) where
-    own-at : (c i : ℕ) → c < n → i < k → getD (getD (plain n s) c []) i (pos 0) ≡ getD (getD (channelsOf h Pcm bs) c []) i (pos 0)
+    own-at : (c i : ℕ) → c < n → i < k → getD (getD (unwoven n s) c []) i (pos 0) ≡ getD (getD (channelsOf h Pcm bs) c []) i (pos 0)
     unfolding groupSamples
     own-at c i q p = plain-at n k (ok .some) s (ok .long) c i q p ∙ ap (λ (x : List ℤ). getD x (i * n + c) (pos 0)) own ∙ woven-at n k (channelsOf h Pcm bs) read-count c i q p
 
@@ -279,7 +280,7 @@ module _ {h : Fields} {g : ℕ} {bs : List ℕ} {s : List ℤ} (ok : Accepted h 
     plain-own m c q =
         let e = samples-512 (h .depth) (r c) (blocks-ok c q .within) in
         ap (λ (cs : List (List ℤ)). getD cs c []) (chans-plain m)
-        ∙ ext-getD (pos 0) (getD (plain n s) c []) (take k (S c)) (plains .long c q ∙ sym (length-take-le k (S c) (omega (arith, active-low (h .frames) g))))
+        ∙ ext-getD (pos 0) (getD (unwoven n s) c []) (take k (S c)) (plains .long c q ∙ sym (length-take-le k (S c) (omega (arith, active-low (h .frames) g))))
         (λ i p. let j : i < k = omega (arith, plains .long c q) in
         own-at c i q j ∙ ap (λ (cs : List (List ℤ)). getD (getD cs c []) i (pos 0)) (read-plain m)
         ∙ ap (λ (x : List ℤ). getD x i (pos 0)) (getD-tab n S c [] q) ∙ sym (getD-take k (S c) i (pos 0) j))
@@ -292,7 +293,7 @@ module _ {h : Fields} {g : ℕ} {bs : List ℕ} {s : List ℤ} (ok : Accepted h 
         ∙ both-kept S k
         (λ d u. omega (arith, samples-512 (h .depth) (r d) (blocks-ok d (omega arith) .within), active-low (h .frames) g))
         (λ d u. S-fit d (omega arith))
-        (stay m) (plain n s) (λ d u. plains .long d (omega arith))
+        (stay m) (unwoven n s) (λ d u. plains .long d (omega arith))
         (λ d i u p. own-at d i (omega arith) p ∙ ap (λ (cs : List (List ℤ)). getD (getD cs d []) i (pos 0)) (read-both m ∙ ap (λ (x : ℕ). leftRight Pcm (tab x S)) two))
         c (omega arith)
 
@@ -309,7 +310,7 @@ module _ {h : Fields} {g : ℕ} {bs : List ℕ} {s : List ℤ} (ok : Accepted h 
         (chans-own c q ∙ ap (λ (x : ℕ). take x (S c)) (sym (level .long c q)))
 
     so-far : (c : ℕ) → c ≤ n → joined B c ++ r c ≡ bs
-    unfolding joined rest
+    unfolding joined fromBlock
     so-far zero q = refl
     so-far (suc c) q =
         let z = sizeOf (h .depth) (r c) in
@@ -318,8 +319,8 @@ module _ {h : Fields} {g : ℕ} {bs : List ℕ} {s : List ℤ} (ok : Accepted h 
         ∙ so-far c (omega arith)
 
     -- the group stays
-    pub group-kept : newGroup (h .depth) n bs s ≡ bs
-    unfolding newGroup
+    pub group-kept : reencodedGroup (h .depth) n bs s ≡ bs
+    unfolding reencodedGroup
     group-kept = sym (append-nil (joined B n)) ∙ ap (λ (x : List ℕ). joined B n ++ x) (sym (nothing (r n) none-left)) ∙ so-far n (omega arith)
       where
         nothing : (x : List ℕ) → length x ≡ 0 → x ≡ []
@@ -327,10 +328,10 @@ module _ {h : Fields} {g : ℕ} {bs : List ℕ} {s : List ℤ} (ok : Accepted h 
         nothing (y ∷ x) e = absurd (omega arith)
 
   -- ---- the converse: a group that stays
-  module _ (kept : newGroup (h .depth) n bs s ≡ bs) where
+  module _ (kept : reencodedGroup (h .depth) n bs s ≡ bs) where
     -- has the new samples
     coded-kept : tab n S ≡ tab n X
-    unfolding newGroup coded
+    unfolding reencodedGroup coded
     coded-kept = ap (coded (h .depth) n) (sym kept) ∙ coded-is h flags X B reads
 
     kept-at : (c i : ℕ) → c < n → i < k → getD (S c) i (pos 0) ≡ getD (getD chans c []) i (pos 0)
@@ -341,4 +342,4 @@ module _ {h : Fields} {g : ℕ} {bs : List ℕ} {s : List ℤ} (ok : Accepted h 
     group-stays m i p =
         let two = two-ok m in
         rw (kept-at 0 i (omega arith) p, kept-at 1 i (omega arith) p, chans-both m)
-        (frames-stay (h .depth) n k (ok .high) two (plain n s) plains (T.even-ok (h .depth) n bs s (ok .fine) m) i p)
+        (frames-stay (h .depth) n k (ok .high) two (unwoven n s) plains (T.even-ok (h .depth) n bs s (ok .fine) m) i p)

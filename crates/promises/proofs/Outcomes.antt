@@ -94,7 +94,7 @@ module _ (f : List ℕ) (lent after : List ℤ) (n : ℕ) (d : Decodes f lent (r
   pub read-fine : checkDecode f ≡ Fine
   read-fine = first-fine _ _ read-passed
 
-  pub read-count : n ≡ fieldsOf f .frames * fieldsOf f .channels
+  pub read-count : n ≡ fieldsOf f .frames .0 * fieldsOf f .channels
   unfolding decodeOf
   read-count =
       let e = succeeds-as c (Read (decodedCount f)) (Read (record { 0 = n })) refl (d .0) in
@@ -108,12 +108,12 @@ module _ (f : List ℕ) (lent after : List ℤ) (n : ℕ) (d : Decodes f lent (r
 
 -- ---- a file that decodes to s, into enough room
 module _ (f : List ℕ) (s : List ℤ) (fine : checkDecode f ≡ Fine) (gives : decodedOf f ≡ s) (room : ℕ) (enough : length s ≤ room) where
-  count-is : fieldsOf f .frames * fieldsOf f .channels ≡ length s
+  count-is : fieldsOf f .frames .0 * fieldsOf f .channels ≡ length s
   count-is = decode-count f fine ∙ ap length gives
 
   pub all-fine : (checkDecode f then checkRoom f room) ≡ Fine
   unfolding checkRoom
-  all-fine = fine and-then pass _ _ (le-ltb room (fieldsOf f .frames * fieldsOf f .channels) (omega (arith, count-is)))
+  all-fine = fine and-then pass _ _ (le-ltb room (fieldsOf f .frames .0 * fieldsOf f .channels) (omega (arith, count-is)))
 
   -- says how many they are
   pub reads-all : decodeOf f room ≡ read (length s)

@@ -13,8 +13,9 @@ use borrow.Author.Tests.{not-true}
 use Rattle.format.specs.Lists.{from, pairwise, every, anyBelow}
 use Rattle.format.specs.Header.{groupsOf}
 use Rattle.format.specs.Refusals.{number, refuse, _then_}
-use Rattle.format.specs.Decoding.{active}
-use Rattle.format.specs.Encoding.{equalParity, parity, plain, groupIn, checkSpec, checkEncoder, checkSamples, isMidSide, checkStereo, checkSize, checkEncode, checkEncodeInto}
+use Rattle.format.specs.Units.{active}
+use Rattle.format.specs.Encoding.{equalParity, parity, unwoven, groupIn, checkSpec, checkEncoder, checkSamples, isMidSide, checkStereo, checkSize, checkEncode, checkEncodeInto}
+use Rattle.format.specs.declared.units.Frames.{Frames}
 use Rattle.format.specs.declared.settings.PcmSpec.{PcmSpec}
 use Rattle.format.specs.declared.settings.StereoMode.{StereoMode}
 use Rattle.format.specs.declared.settings.StereoMode.the-variants.{MidSide}
@@ -78,12 +79,12 @@ abbrev pub oddFrame : List ℤ → ℕ → Bool
 oddFrame s i = not (equalParity (getD s (i * 2) (pos 0)) (getD s (i * 2 + 1) (pos 0)))
 
 -- group g of stereo samples
-module _ (s : List ℤ) (frames : ℕ) (l : length s ≡ 2 * frames) (g : ℕ) where
+module _ (s : List ℤ) (frames : Frames) (l : length s ≡ 2 * frames .0) (g : ℕ) where
   abbrev k : ℕ
   k = active frames g
 
   abbrev chans : List (List ℤ)
-  chans = plain 2 (groupIn 2 s g)
+  chans = unwoven 2 (groupIn 2 s g)
 
   in-group : (c i : ℕ) → c < 2 → i < k → getD (groupIn 2 s g) (i * 2 + c) (pos 0) ≡ getD s ((512 * g + i) * 2 + c) (pos 0)
   unfolding groupIn from active
@@ -120,15 +121,15 @@ module _ (s : List ℤ) (frames : ℕ) (l : length s ≡ 2 * frames) (g : ℕ) w
       by true e = sym (even-at (getD chans 0 []) (getD chans 1 []) i (omega (arith, long 0 (omega arith))) (omega (arith, long 1 (omega arith))) e) ∙ frame-is i p ∙ not-true _ o
 
 -- a group's parity differs exactly where a frame's does
-module _ (s : List ℤ) (frames : ℕ) (l : length s ≡ 2 * frames) where
-  pub odd-frame : Some (λ g. not (parity (plain 2 (groupIn 2 s g)))) (groupsOf frames) → Some (oddFrame s) frames
+module _ (s : List ℤ) (frames : Frames) (l : length s ≡ 2 * frames .0) where
+  pub odd-frame : Some (λ g. not (parity (unwoven 2 (groupIn 2 s g)))) (groupsOf frames) → Some (oddFrame s) (frames .0)
   unfolding active
   odd-frame o =
       let i = odd-in s frames l (o .at) (not-true _ (o .holds)) in
       let b = o .below in
       record { at = 512 * o .at + i .0; below = omega (arith, i .1); holds = i .2 }
 
-  pub odd-group : Some (oddFrame s) frames → Some (λ g. not (parity (plain 2 (groupIn 2 s g)))) (groupsOf frames)
+  pub odd-group : Some (oddFrame s) (frames .0) → Some (λ g. not (parity (unwoven 2 (groupIn 2 s g)))) (groupsOf frames)
   unfolding active groupsOf
   odd-group o =
       let b = o .below in
@@ -142,17 +143,17 @@ module _ (s : List ℤ) (frames : ℕ) (l : length s ≡ 2 * frames) where
 -- ---- MidSide of stereo samples
 module _ (p : PcmSpec) (s : List ℤ) (two : p .channels ≡ 2) (l : length s ≡ 2 * (length s / 2)) where
   abbrev odd : Bool
-  odd = anyBelow (λ g. not (parity (plain 2 (groupIn 2 s g)))) (groupsOf (length s / 2))
+  odd = anyBelow (λ g. not (parity (unwoven 2 (groupIn 2 s g)))) (groupsOf (record { 0 = length s / 2 }))
 
   stereo-is : checkStereo p MidSide s ≡ refuse odd ParityDiffers
   unfolding checkStereo isMidSide refuse _then_
   stereo-is =
-      ap (λ (n : ℕ). refuse (not (eqb n 2)) NotStereo then refuse (anyBelow (λ g. not (parity (plain n (groupIn n s g)))) (groupsOf (length s / n))) ParityDiffers) two
+      ap (λ (n : ℕ). refuse (not (eqb n 2)) NotStereo then refuse (anyBelow (λ g. not (parity (unwoven n (groupIn n s g)))) (groupsOf (record { 0 = length s / n }))) ParityDiffers) two
 
   -- where it refuses, some frame's samples differ in parity
   pub refuses-when : (x : Refusal) → checkStereo p MidSide s ≡ No x → Some (oddFrame s) (length s / 2)
   unfolding refuse
-  refuses-when x e = odd-frame s (length s / 2) l (some-below _ _ (by odd refl (sym stereo-is ∙ e)))
+  refuses-when x e = odd-frame s (record { 0 = length s / 2 }) l (some-below _ _ (by odd refl (sym stereo-is ∙ e)))
     where
       by : (b : Bool) → odd ≡ b → refuse b ParityDiffers ≡ No x → odd ≡ true
       by true q f = q
@@ -161,7 +162,7 @@ module _ (p : PcmSpec) (s : List ℤ) (two : p .channels ≡ 2) (l : length s �
   -- where some frame's samples do, it refuses 35
   pub when-refuses : Some (oddFrame s) (length s / 2) → checkStereo p MidSide s ≡ No ParityDiffers
   unfolding refuse
-  when-refuses o = stereo-is ∙ ap (λ (b : Bool). refuse b ParityDiffers) (below-some _ _ (odd-group s (length s / 2) l o))
+  when-refuses o = stereo-is ∙ ap (λ (b : Bool). refuse b ParityDiffers) (below-some _ _ (odd-group s (record { 0 = length s / 2 }) l o))
 
 -- ---- so does encoding: its other checks do not say 35
 module _ (x : Refusal) (e : number x ≡ 35) where

@@ -7,11 +7,11 @@ use native.Mathlib.Omega.{arith}
 use lib.ListN.{length, getD, replicate}
 use lib.IntN.{ℤ, pos, negsuc, _+ℤ_}
 use Rattle.format.specs.Numbers.{Below, holds}
-use Rattle.format.specs.Header.{fieldsOf, group}
+use Rattle.format.specs.Header.{fieldsOf, groupBytes}
 use Rattle.format.specs.Packed.{packing}
 use Rattle.format.specs.Answers.{read, wrote}
 use Rattle.format.specs.Decoding.{decodeOf, decodeInto}
-use Rattle.format.specs.Encoding.{block}
+use Rattle.format.specs.Encoding.{blockBytes}
 use Rattle.format.specs.Reencoding.{reencodeOf, reencodeInto}
 use Rattle.format.proofs.Made.{document-01, pcm, laid}
 use Rattle.laws.proofs.Marks.{digits-by}
@@ -19,7 +19,7 @@ use Rattle.promises.proofs.MidSums.{midAt, sideAt}
 
 -- a block with flags 1 whose first value is −2147483648
 abbrev raw : List ℕ
-raw = block (pos 0) (negsuc 31) 1 (packing 32 (negsuc 2147483647 ∷ replicate 511 (pos 0)))
+raw = blockBytes (pos 0) (negsuc 31) 1 (packing 32 (negsuc 2147483647 ∷ replicate 511 (pos 0)))
 
 -- two such, as the one group of a stereo file of one frame and 16 bits
 abbrev pub lowest : List ℕ
@@ -40,7 +40,7 @@ pub record Needed : Type 0 where
   -- and gives another file
   pub moves : reencodeInto (pcm 2 16) zeros lowest lowest ≡ lowest → ⊥
   -- mid plus side of its frame leaves 32 bits
-  pub leaves : holds 32 (midAt 16 (group lowest (fieldsOf lowest) 0) 0 +ℤ sideAt 16 (group lowest (fieldsOf lowest) 0) 0) ≡ false
+  pub leaves : holds 32 (midAt 16 (groupBytes lowest (fieldsOf lowest) 0) 0 +ℤ sideAt 16 (groupBytes lowest (fieldsOf lowest) 0) 0) ≡ false
 
 pub needed : Needed
 unfolding document-01

@@ -14,12 +14,12 @@ use mir.Val.{SFits}
 use borrow.Author.Tests.{le-ltb, eq-eqb}
 use Rattle.format.specs.Lists.{joined, from, same}
 use Rattle.format.specs.Numbers.{num, numAt, Below}
-use Rattle.format.specs.Header.{signature, isSignature, fieldsOf, groupsOf, entry, group}
-use Rattle.format.specs.Units.{isDepth}
+use Rattle.format.specs.Header.{signature, isSignature, fieldsOf, groupsOf, entry, groupBytes}
+use Rattle.format.specs.Units.{isDepth, active}
 use Rattle.format.specs.Opening.{checkOffsets, openOf}
-use Rattle.format.specs.Decoding.{active, groupSamples, checkDecode, decodedOf}
+use Rattle.format.specs.Decoding.{groupSamples, checkDecode, decodedOf}
 use Rattle.format.specs.Encoding.{groupIn}
-use Rattle.format.specs.Reencoding.{checkTemplate, checkReencode, refileOf}
+use Rattle.format.specs.Reencoding.{checkTemplate, checkReencode, reencodedFile}
 use Rattle.format.specs.declared.refusals.Checked.the-variants.{Fine}
 use Rattle.format.specs.declared.settings.PcmSpec.{PcmSpec}
 use Rattle.format.specs.declared.settings.SampleFormat.the-variants.{Pcm}
@@ -65,7 +65,7 @@ module _ (p : PcmSpec) (s : List ℤ) (t : List ℕ) (ok : checkReencode p s t �
   abbrev part : ℕ → List ℕ
   part = F.part p s t ok
 
-  all-frames : length s ≡ h .channels * h .frames
+  all-frames : length s ≡ h .channels * h .frames .0
   all-frames = F.all-frames p s t template (F.samples-ok p s t ok)
 
   writer : Valid 2 p
@@ -80,7 +80,7 @@ module _ (p : PcmSpec) (s : List ℤ) (t : List ℕ) (ok : checkReencode p s t �
   rate : 1 ≤ h .rate
   rate = rw (F.rate-is p s t template) (writer .rate)
 
-  pub accepted : (g : ℕ) → g < count → Accepted h g (group t h g) (groupIn (h .channels) s g)
+  pub accepted : (g : ℕ) → g < count → Accepted h g (groupBytes t h g) (groupIn (h .channels) s g)
   accepted g l =
       record {
         some = some;
@@ -103,7 +103,7 @@ module _ (p : PcmSpec) (s : List ℤ) (t : List ℕ) (ok : checkReencode p s t �
   back = F.back p s t ok
 
   -- what lies before the data is the template's
-  front-same : (i k : ℕ) → i + k ≤ h .start → from i k (refileOf s t) ≡ from i k t
+  front-same : (i k : ℕ) → i + k ≤ h .start → from i k (reencodedFile s t) ≡ from i k t
   unfolding from
   front-same i k l =
       ap (from i k) (F.file-is p s t ok) ∙ from-within i k front (joined part count ++ back) (omega (arith, F.front-length p s t ok))
@@ -115,48 +115,48 @@ module _ (p : PcmSpec) (s : List ℤ) (t : List ℕ) (ok : checkReencode p s t �
   early : 120 ≤ h .start
   early = omega (arith, F.table-ok p s t template, F.start-ok p s t template)
 
-  same-number : (i k : ℕ) → i + k ≤ h .start → numAt i k (refileOf s t) ≡ numAt i k t
+  same-number : (i k : ℕ) → i + k ≤ h .start → numAt i k (reencodedFile s t) ≡ numAt i k t
   unfolding numAt
   same-number i k l = ap (num 256) (front-same i k l)
 
   -- so its header's numbers stay
-  pub fields-same : fieldsOf (refileOf s t) ≡ h
+  pub fields-same : fieldsOf (reencodedFile s t) ≡ h
   unfolding fieldsOf
   fields-same =
       λ i. record {
         channels = same-number 8 2 (omega (arith, early)) i;
         depth = same-number 10 2 (omega (arith, early)) i;
         rate = same-number 12 4 (omega (arith, early)) i;
-        frames = same-number 16 4 (omega (arith, early)) i;
+        frames = record { 0 = same-number 16 4 (omega (arith, early)) i };
         table = same-number 20 4 (omega (arith, early)) i;
         start = same-number 24 4 (omega (arith, early)) i;
         size = same-number 28 4 (omega (arith, early)) i;
       }
 
-  pub signed-same : isSignature (refileOf s t) ≡ true
+  pub signed-same : isSignature (reencodedFile s t) ≡ true
   unfolding isSignature from
   signed-same = ap (λ (x : List ℕ). same x (signature 0x31) || same x (signature 0x30)) (front-same 0 8 (omega (arith, early))) ∙ F.signed-ok p s t template
 
-  pub entry-same : (k : ℕ) → k ≤ count → entry (refileOf s t) h k ≡ length (joined part k)
+  pub entry-same : (k : ℕ) → k ≤ count → entry (reencodedFile s t) h k ≡ length (joined part k)
   unfolding entry
   entry-same k l = same-number (h .table + 4 * k) 4 (omega (arith, F.room-ok p s t template, F.start-ok p s t template)) ∙ F.entries-same p s t ok k l
 
   -- its groups are the new ones
-  pub group-new : (g : ℕ) → g < count → group (refileOf s t) h g ≡ part g
-  unfolding group
+  pub group-new : (g : ℕ) → g < count → groupBytes (reencodedFile s t) h g ≡ part g
+  unfolding groupBytes
   group-new g l =
-      ap (from (h .start + entry (refileOf s t) h g) (entry (refileOf s t) h (g + 1) - entry (refileOf s t) h g)) (F.file-is p s t ok)
-      ∙ between part g count (h .start) (entry (refileOf s t) h g) (entry (refileOf s t) h (g + 1)) front back l (F.front-length p s t ok) (entry-same g (omega arith)) (entry-same (g + 1) (omega arith))
+      ap (from (h .start + entry (reencodedFile s t) h g) (entry (reencodedFile s t) h (g + 1) - entry (reencodedFile s t) h g)) (F.file-is p s t ok)
+      ∙ between part g count (h .start) (entry (reencodedFile s t) h g) (entry (reencodedFile s t) h (g + 1)) front back l (F.front-length p s t ok) (entry-same g (omega arith)) (entry-same (g + 1) (omega arith))
 
-  offsets-fine : checkOffsets h (length (refileOf s t)) ≡ Fine
+  offsets-fine : checkOffsets h (length (reencodedFile s t)) ≡ Fine
   unfolding checkOffsets
   offsets-fine =
       pass _ _ (le-ltb (h .table) 120 (F.table-ok p s t template))
       and-then pass _ _ (le-ltb (h .start) (h .table) (F.start-ok p s t template))
       and-then pass _ _ (ap not (eq-eqb (h .start - h .table) (4 * (count + 1)) (F.room-ok p s t template)))
-      and-then pass _ _ (le-ltb (length (refileOf s t)) (h .start + h .size) (omega (arith, F.same-length p s t ok, F.end-ok p s t template)))
+      and-then pass _ _ (le-ltb (length (reencodedFile s t)) (h .start + h .size) (omega (arith, F.same-length p s t ok, F.end-ok p s t template)))
 
-  pub layout : Layout (refileOf s t) h part
+  pub layout : Layout (reencodedFile s t) h part
   layout =
       record {
         fields = fields-same;
@@ -171,16 +171,16 @@ module _ (p : PcmSpec) (s : List ℤ) (t : List ℕ) (ok : checkReencode p s t �
       }
 
   -- decoding accepts the new file
-  pub decodes : checkDecode (refileOf s t) ≡ Fine
+  pub decodes : checkDecode (reencodedFile s t) ≡ Fine
   decodes = decode-fine layout (groupIn (h .channels) s) some depth rate parts-ok
 
   -- and gives the samples
-  pub gives-back : decodedOf (refileOf s t) ≡ s
+  pub gives-back : decodedOf (reencodedFile s t) ≡ s
   gives-back = decode-gives layout (groupIn (h .channels) s) some depth rate parts-ok ∙ groups-joined (h .channels) (h .frames) s all-frames
 
   -- ---- the template itself: its groups, joined
-  groups-so-far : (k : ℕ) → k ≤ count → joined (group t h) k ≡ from (h .start) (entry t h k) t
-  unfolding joined group
+  groups-so-far : (k : ℕ) → k ≤ count → joined (groupBytes t h) k ≡ from (h .start) (entry t h k) t
+  unfolding joined groupBytes
   groups-so-far zero l = sym (ap (λ (x : ℕ). from (h .start) x t) (F.entry-zero p s t template) ∙ from-none (h .start) t)
   groups-so-far (suc k) l =
       let r = rw add-one at (F.entry-rises p s t template k l) in
@@ -190,16 +190,16 @@ module _ (p : PcmSpec) (s : List ℤ) (t : List ℕ) (ok : checkReencode p s t �
       ∙ ap (λ (x : ℕ). from (h .start) x t) j
 
   -- with what lies after them they are all from the data offset on
-  data-there : joined (group t h) count ++ back ≡ drop (h .start) t
+  data-there : joined (groupBytes t h) count ++ back ≡ drop (h .start) t
   unfolding from
   data-there =
       ap (λ (x : List ℕ). x ++ back) (groups-so-far count (omega arith) ∙ ap (λ (x : ℕ). from (h .start) x t) (F.entry-last p s t template))
       ∙ ap (λ (x : List ℕ). take (h .size) (drop (h .start) t) ++ x) (sym (drop-drop (h .size) (h .start) t)) ∙ take-append-drop (h .size) (drop (h .start) t)
 
-  group-offset : (k : ℕ) → k ≤ count → entry t h k ≡ length (joined (group t h) k)
+  group-offset : (k : ℕ) → k ≤ count → entry t h k ≡ length (joined (groupBytes t h) k)
   group-offset k l = sym (ap length (groups-so-far k l) ∙ length-from (h .start) (entry t h k) t (F.entry-within p s t template k l))
 
-  pub template-layout : Layout t h (group t h)
+  pub template-layout : Layout t h (groupBytes t h)
   template-layout =
       record {
         fields = refl;
@@ -214,15 +214,15 @@ module _ (p : PcmSpec) (s : List ℤ) (t : List ℕ) (ok : checkReencode p s t �
       }
 
   abbrev P : ℕ → List ℤ
-  P g = groupSamples h Pcm g (group t h g)
+  P g = groupSamples h Pcm g (groupBytes t h g)
 
-  templates-ok : (g : ℕ) → g < count → Group h g (P g) (group t h g)
+  templates-ok : (g : ℕ) → g < count → Group h g (P g) (groupBytes t h g)
   templates-ok g l = template-group (accepted g l)
 
   -- opening says the same of both
-  pub opens-same : openOf (refileOf s t) ≡ openOf t
+  pub opens-same : openOf (reencodedFile s t) ≡ openOf t
   opens-same =
-      open-says layout (groupIn (h .channels) s) some depth rate parts-ok ∙ sym (open-says template-layout (λ g. groupSamples h Pcm g (group t h g)) some depth rate templates-ok)
+      open-says layout (groupIn (h .channels) s) some depth rate parts-ok ∙ sym (open-says template-layout (λ g. groupSamples h Pcm g (groupBytes t h g)) some depth rate templates-ok)
 
   -- what re-encoding accepts as a template, decoding accepts
   pub template-decodes : checkDecode t ≡ Fine
@@ -242,7 +242,7 @@ module _ (p : PcmSpec) (s : List ℤ) (t : List ℕ) (ok : checkReencode p s t �
   -- what the template decodes to, re-encoded, where no mid plus side or mid minus side leaves 32 bits: sums wrap, so that others may be read as the same samples
   module _ (byte : Below 256 t) (own : s ≡ decodedOf t) (none : NoneLeaves t) where
     P-length : (g : ℕ) → g < count → length (P g) ≡ h .channels * active (h .frames) g
-    P-length g l = group-writes h Pcm (group t h g) some (templates-ok g l .fine) g
+    P-length g l = group-writes h Pcm (groupBytes t h g) some (templates-ok g l .fine) g
 
     -- group g's samples
     group-own : (g : ℕ) → g < count → groupIn (h .channels) s g ≡ P g
@@ -250,7 +250,7 @@ module _ (p : PcmSpec) (s : List ℤ) (t : List ℕ) (ok : checkReencode p s t �
     group-own g l =
         let n = h .channels in
         let len : length (groupIn n s g) ≡ length (P g) = group-length n (h .frames) s all-frames g ∙ sym (P-length g l) in
-        let e : min (h .frames) (512 * g) ≡ 512 * g = omega arith in
+        let e : min (h .frames .0) (512 * g) ≡ 512 * g = omega arith in
         let off : 512 * n * g ≡ length (joined P g) = group-starts n g ∙ ap (λ (x : ℕ). n * x) (sym e) ∙ sym (active-sum (h .frames) n P g (λ j q. P-length j (omega arith))) in
         take-own (512 * n) (drop (512 * n * g) s) (length (P g)) len
         ∙ ap (from (512 * n * g) (length (P g))) (own ∙ template-gives ∙ sym (append-nil (joined P count)))
@@ -259,15 +259,15 @@ module _ (p : PcmSpec) (s : List ℤ) (t : List ℕ) (ok : checkReencode p s t �
         sum-zero : (x : ℕ) → x ≡ 0 + x
         sum-zero x = omega arith
 
-    part-kept : (g : ℕ) → g < count → part g ≡ group t h g
+    part-kept : (g : ℕ) → g < count → part g ≡ groupBytes t h g
     part-kept g l = group-kept (accepted g l) (below-group t byte h g) (group-own g l) (λ m i q. none g i l m q)
 
     -- is the template
-    pub template-kept : refileOf s t ≡ t
+    pub template-kept : reencodedFile s t ≡ t
     template-kept =
-        F.file-is p s t ok ∙ ap (λ (x : List ℕ). front ++ (x ++ back)) (joined-cong part (group t h) count part-kept)
+        F.file-is p s t ok ∙ ap (λ (x : List ℕ). front ++ (x ++ back)) (joined-cong part (groupBytes t h) count part-kept)
         ∙ ap (λ (x : List ℕ). front ++ x) data-there ∙ take-append-drop (h .start) t
 
   -- and only then: where the new file is the template, no sum leaves 32 bits
-  pub kept-stays : refileOf s t ≡ t → NoneLeaves t
-  kept-stays kept g i l m q = group-stays (accepted g l) (sym (group-new g l) ∙ ap (λ (f : List ℕ). group f h g) kept) m i q
+  pub kept-stays : reencodedFile s t ≡ t → NoneLeaves t
+  kept-stays kept g i l m q = group-stays (accepted g l) (sym (group-new g l) ∙ ap (λ (f : List ℕ). groupBytes f h g) kept) m i q

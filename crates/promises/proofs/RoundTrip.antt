@@ -1,10 +1,9 @@
 -- Encoding, then decoding, gives the samples back.
-use Prim.Native.Nat.{ℕ, _/_, _<_}
+use Prim.Native.Nat.{ℕ, _<_}
 use mathlib.Core.Path.{_≡_, refl, ap, _∙_, subst}
 use mathlib.Core.Bool.{Bool, true, false, not, _&&_}
 use mathlib.Core.List.{List}
 use native.Mathlib.Omega.{arith}
-use lib.ListN.{length}
 use lib.IntN.{ℤ}
 use lib.Dec.{eqb}
 use borrow.Author.Tests.{ltb-false, eqb-true, not-false}
@@ -13,7 +12,8 @@ use Rattle.format.specs.Header.{groupsOf}
 use Rattle.format.specs.Answers.{answeredBy}
 use Rattle.format.specs.Opening.{headerFor, openOf}
 use Rattle.format.specs.Decoding.{checkDecode, decodedOf}
-use Rattle.format.specs.Encoding.{parity, plain, groupIn, isMidSide, checkEncoder, checkSamples, checkStereo, groupAt, fileOf, checkSize, checkEncode}
+use Rattle.format.specs.Encoding.{parity, unwoven, groupIn, isMidSide, checkEncoder, checkSamples, checkStereo, encodedGroupAt, encodedFile, checkSize, checkEncode, framesOf}
+use Rattle.format.specs.declared.units.Frames.{Frames}
 use Rattle.format.specs.declared.refusals.Checked.the-variants.{Fine}
 use Rattle.format.specs.declared.settings.PcmSpec.{PcmSpec}
 use Rattle.format.specs.declared.settings.StereoMode.{StereoMode}
@@ -30,11 +30,11 @@ use Rattle.laws.proofs.SampleChecks.{encoder-ok, frames-ok, values-ok, count-ok
 
 -- encoding accepts s
 module _ (p : PcmSpec) (mode : StereoMode) (s : List ℤ) (ok : checkEncode p mode s ≡ Fine) where
-  abbrev frames : ℕ
-  frames = length s / p .channels
+  abbrev frames : Frames
+  frames = framesOf p s
 
   abbrev part : ℕ → List ℕ
-  part = groupAt p mode s
+  part = encodedGroupAt p mode s
 
   abbrev h : Fields
   h = head p frames part
@@ -61,9 +61,9 @@ module _ (p : PcmSpec) (mode : StereoMode) (s : List ℤ) (ok : checkEncode p mo
   total-ok = let z = ltb-false 4294967295 (total p frames part) (passed _ _ size-ok) in omega arith
 
   abbrev odd : ℕ → Bool
-  odd g = not (parity (plain (p .channels) (groupIn (p .channels) s g)))
+  odd g = not (parity (unwoven (p .channels) (groupIn (p .channels) s g)))
 
-  mid-ok : (g : ℕ) → g < groupsOf frames → mode ≡ MidSide → (p .channels ≡ 2) × (parity (plain (p .channels) (groupIn (p .channels) s g)) ≡ true)
+  mid-ok : (g : ℕ) → g < groupsOf frames → mode ≡ MidSide → (p .channels ≡ 2) × (parity (unwoven (p .channels) (groupIn (p .channels) s g)) ≡ true)
   unfolding checkStereo isMidSide
   mid-ok g l e =
       let m : isMidSide mode ≡ true = ap isMidSide e in
@@ -89,26 +89,26 @@ module _ (p : PcmSpec) (mode : StereoMode) (s : List ℤ) (ok : checkEncode p mo
 
     -- every group reads as its samples
     groups-ok : (g : ℕ) → g < groupsOf frames → Group h g (groupIn (p .channels) s g) (part g)
-    unfolding groupAt
+    unfolding encodedGroupAt
     groups-ok g l =
         let v = encoder-ok p writer-ok in
         group-codes p mode h refl refl (v .some) (v .low) (v .high) g (groupIn (p .channels) s g) (group-length (p .channels) frames s (frames-ok p s samples-ok) g)
         (group-holds (p .«bits_per_sample») (p .channels) s g (values-ok p s samples-ok (v .depth))) (mid-ok g l)
 
-    pub layout : Layout (fileOf p mode s) h part
-    unfolding fileOf
+    pub layout : Layout (encodedFile p mode s) h part
+    unfolding encodedFile
     layout = assembled-layout p frames part small
 
     -- opening says what it was made of
-    pub opens : openOf (fileOf p mode s) ≡ answeredBy (Opened (headerFor h Pcm))
+    pub opens : openOf (encodedFile p mode s) ≡ answeredBy (Opened (headerFor h Pcm))
     opens = let v = encoder-ok p writer-ok in open-says layout (groupIn (p .channels) s) (v .some) (v .depth) (v .rate) groups-ok
 
     -- decoding accepts the file
-    pub decodes : checkDecode (fileOf p mode s) ≡ Fine
+    pub decodes : checkDecode (encodedFile p mode s) ≡ Fine
     decodes = let v = encoder-ok p writer-ok in decode-fine layout (groupIn (p .channels) s) (v .some) (v .depth) (v .rate) groups-ok
 
     -- and gives the samples
-    pub gives-back : decodedOf (fileOf p mode s) ≡ s
+    pub gives-back : decodedOf (encodedFile p mode s) ≡ s
     gives-back =
         let v = encoder-ok p writer-ok in
         decode-gives layout (groupIn (p .channels) s) (v .some) (v .depth) (v .rate) groups-ok ∙ groups-joined (p .channels) frames s (frames-ok p s samples-ok)

@@ -11,11 +11,12 @@ use lib.IntN.{ℤ}
 use lib.Dec.{ltb}
 use borrow.Author.Tests.{ltb-true, le-ltb}
 use Rattle.format.specs.Lists.{joined, over}
-use Rattle.format.specs.Header.{fieldsOf, groupsOf, group}
+use Rattle.format.specs.Header.{fieldsOf, groupsOf, groupBytes}
 use Rattle.format.specs.Refusals.{refuse, _then_, inOrder}
 use Rattle.format.specs.Answers.{answeredBy, refusedBy, answered, filled, read}
 use Rattle.format.specs.Opening.{formatOf, checkOpen}
-use Rattle.format.specs.Decoding.{active, checkDecode, decodedOf}
+use Rattle.format.specs.Units.{active}
+use Rattle.format.specs.Decoding.{checkDecode, decodedOf}
 use Rattle.format.specs.Walking.{checkStep, stepSamples, stepCount, isLeft, checkStepInto, checkWalk, stepOf, groupsPassed, nextOf, stepInto}
 use Rattle.format.specs.Promises.{Steps, Advances}
 use Rattle.format.specs.declared.units.Samples.{Samples}
@@ -104,7 +105,7 @@ module _ (s : List ℕ) (g : ℕ) (lent after : List ℤ) (n : ℕ) (d : Steps s
   unfolding stepSamples checkStep
   step-long =
       step-count ∙ mul-comm (active (h .frames) g) (h .channels)
-      ∙ sym (group-writes h (formatOf s h) (group s h g) (some-channels h (opened-fields s (step-opens s g lent after o refl d))) step-checked g)
+      ∙ sym (group-writes h (formatOf s h) (groupBytes s h g) (some-channels h (opened-fields s (step-opens s g lent after o refl d))) step-checked g)
 
   pub step-over : after ≡ over (stepSamples s g) lent
   step-over = leaves s g lent after o refl d true left

@@ -4,7 +4,7 @@ use mathlib.Core.Path.{_≡_, refl, sym, ap, _∙_}
 use mathlib.Core.List.{List}
 use native.Mathlib.Omega.{arith}
 use lib.ListN.{length}
-use Rattle.format.specs.Header.{fieldsOf, groupsOf, group}
+use Rattle.format.specs.Header.{fieldsOf, groupsOf, groupBytes}
 use Rattle.format.specs.Refusals.{inOrder, _then_}
 use Rattle.format.specs.Answers.{answeredBy}
 use Rattle.format.specs.Opening.{formatOf, checkOpen}
@@ -24,7 +24,7 @@ use Rattle.laws.proofs.Opened.{opened-long}
 pub check-rest :
     (s : List ℕ) (a : Checked) → a ≡ checkOpen s → a ≡ Fine
     → (h : Fields) (f : SampleFormat) (k : Checked) → h ≡ fieldsOf s → f ≡ formatOf s h
-    → k ≡ inOrder (λ g. checkGroup h f (group s h g)) (groupsOf (h .frames)) → k ≡ checkDecode s
+    → k ≡ inOrder (λ g. checkGroup h f (groupBytes s h g)) (groupsOf (h .frames)) → k ≡ checkDecode s
 unfolding checkDecode _then_
 check-rest s a says fine h f k p q e = rw (← says, fine, ← p, ← q) e
 
@@ -41,7 +41,7 @@ module _ (s : List ℕ) (k : Checked) (says : k ≡ checkDecode s) (fine : k ≡
   decode-fields = omega (arith, opened-long s decode-opens)
 
 -- n is how many samples there are, c the room
-module _ (s : List ℕ) (h : Fields) (reads : h ≡ fieldsOf s) (n : Samples) (counts : n ≡ samplesIn (record { 0 = h .frames }) (h .channels)) where
+module _ (s : List ℕ) (h : Fields) (reads : h ≡ fieldsOf s) (n : Samples) (counts : n ≡ samplesIn (h .frames) (h .channels)) where
   in-all : n ≡ decodedCount s
   in-all = counts ∙ rw reads refl
 

@@ -9,9 +9,10 @@ use lib.IntN.{ℤ}
 use lib.ListN.{length, take, drop, length-append}
 use lib.Seq.{take-append-seam, drop-append-add, drop-drop}
 use Rattle.format.specs.Lists.{joined, over}
-use Rattle.format.specs.Header.{fieldsOf, groupsOf, entry, group}
+use Rattle.format.specs.Header.{fieldsOf, groupsOf, entry, groupBytes}
 use Rattle.format.specs.Opening.{formatOf, checkOpen}
-use Rattle.format.specs.Decoding.{checkGroup, channelsOf, woven, active, groupSamples, checkDecode, decodedOf}
+use Rattle.format.specs.Units.{active}
+use Rattle.format.specs.Decoding.{checkGroup, channelsOf, woven, groupSamples, checkDecode, decodedOf}
 use Rattle.format.specs.declared.refusals.Checked.the-variants.{Fine}
 use Rattle.format.specs.declared.settings.SampleFormat.{SampleFormat}
 use Rattle.format.specs.declared.answers.Fields.{Fields}
@@ -30,7 +31,7 @@ placed-over xs ys s = rw (take-append-seam, drop-append-add, drop-drop, length-a
 
 -- ---- the samples of group g, and of the groups before it
 abbrev pub part : List ℕ → Fields → SampleFormat → ℕ → List ℤ
-part s h f g = groupSamples h f g (group s h g)
+part s h f g = groupSamples h f g (groupBytes s h g)
 
 abbrev pub parts : List ℕ → Fields → SampleFormat → ℕ → List ℤ
 parts s h f g = joined (part s h f) g
@@ -40,19 +41,19 @@ module _ (s : List ℕ) (h : Fields) (f : SampleFormat) (fine : checkDecode s �
   unfolding checkDecode
   opens = first-fine _ _ fine
 
-  group-fine : (g : ℕ) → g < groupsOf (h .frames) → checkGroup h f (group s h g) ≡ Fine
+  group-fine : (g : ℕ) → g < groupsOf (h .frames) → checkGroup h f (groupBytes s h g) ≡ Fine
   unfolding checkDecode
   group-fine g l =
       let all = others-fine (checkOpen s) _ fine in
-      order-fine (λ g. checkGroup h f (group s h g)) g (groupsOf (h .frames)) l (rw (says, reads) all)
+      order-fine (λ g. checkGroup h f (groupBytes s h g)) g (groupsOf (h .frames)) l (rw (says, reads) all)
 
   part-length : (g : ℕ) → g < groupsOf (h .frames) → length (part s h f g) ≡ h .channels * active (h .frames) g
-  part-length g l = group-writes h f (group s h g) (channels-some s h opens reads) (group-fine g l) g
+  part-length g l = group-writes h f (groupBytes s h g) (channels-some s h opens reads) (group-fine g l) g
 
   parts-length : (g : ℕ) → g < groupsOf (h .frames) → length (parts s h f g) ≡ 512 * g * h .channels
   unfolding groupsOf
   parts-length g l =
-      let e : min (h .frames) (512 * g) ≡ 512 * g = omega arith in
+      let e : min (h .frames .0) (512 * g) ≡ 512 * g = omega arith in
       active-sum (h .frames) (h .channels) (part s h f) g (λ k q. part-length k (omega arith)) ∙ ap (λ (x : ℕ). h .channels * x) e ∙ mul-comm (h .channels) (512 * g)
 
   module _ (groups g a e : ℕ) (all : groups ≡ groupsOf (h .frames)) (below : g < groups) (starts : a ≡ h .start + entry s h g) (ends : e ≡ h .start + entry s h (g + 1)) where
@@ -62,7 +63,7 @@ module _ (s : List ℕ) (h : Fields) (f : SampleFormat) (fine : checkDecode s �
     abbrev bytes : List ℕ
     bytes = take (e - a) (drop a s)
 
-    is-group : bytes ≡ group s h g
+    is-group : bytes ≡ groupBytes s h g
     is-group = part-is s h opens reads groups g a e all below starts ends
 
     pub rises : a ≤ e
@@ -83,20 +84,20 @@ module _ (s : List ℕ) (h : Fields) (f : SampleFormat) (fine : checkDecode s �
     unfolding groupSamples
     woven-part n count = sym (woven-from n (channelsOf h f bytes)) ∙ ap₂ (λ (k : ℕ) (b : List ℕ). woven k (channelsOf h f b)) count is-group
 
-    module _ (n first : ℕ) (count : n ≡ active (h .frames) g) (at : first ≡ 512 * g) (t₀ t : List ℤ) (room : h .frames * h .channels ≤ length t₀) (so-far : t ≡ over (parts s h f g) t₀) where
+    module _ (n first : ℕ) (count : n ≡ active (h .frames) g) (at : first ≡ 512 * g) (t₀ t : List ℤ) (room : h .frames .0 * h .channels ≤ length t₀) (so-far : t ≡ over (parts s h f g) t₀) where
       begins : first * h .channels ≡ length (parts s h f g)
       begins = ap (λ (x : ℕ). x * h .channels) at ∙ sym (parts-length g l)
 
       pub same-long : length t ≡ length t₀
       unfolding groupsOf
       same-long =
-          let q : 512 * g ≤ h .frames = omega arith in
+          let q : 512 * g ≤ h .frames .0 = omega arith in
           ap length so-far ∙ length-over (parts s h f g) t₀ (omega (arith, parts-length g l, mul-le-mul-right (h .channels) q))
 
       pub part-room : (first + n) * h .channels ≤ length t
       unfolding groupsOf active
       part-room =
-          let q : first + n ≤ h .frames = omega arith in
+          let q : first + n ≤ h .frames .0 = omega arith in
           omega (arith, same-long, mul-le-mul-right (h .channels) q)
 
       pub one-more : (t′ : List ℤ) → t′ ≡ placed (first * h .channels) (wovenFrom 0 n (channelsOf h f bytes)) t → t′ ≡ over (parts s h f (g + 1)) t₀

@@ -3,7 +3,7 @@ use format::Checked;
 use format::Fields;
 use format::SampleFormat;
 ghost use mathlib.Core.Path.{_≡_};
-ghost use Rattle.format.specs.Header.{fieldsOf, groupsOf, group};
+ghost use Rattle.format.specs.Header.{fieldsOf, groupsOf, groupBytes};
 ghost use Rattle.format.specs.Refusals.{inOrder};
 ghost use Rattle.format.specs.Opening.{checkOpen};
 ghost use Rattle.format.specs.Decoding.{checkGroup, checkDecode};
@@ -12,9 +12,10 @@ ghost use Rattle.format.specs.declared.refusals.Checked.the-variants.{Fine};
 // Each group in order.
 fn check_groups(file: &[u8], h: Fields, format: SampleFormat) -> Checked
     requires { ⌜ (checkOpen (now file) ≡ Fine) × (h ≡ fieldsOf (now file)) ⌝ }
-    ensures { λ r. ⌜ r ≡ inOrder (λ g. checkGroup h format (group (now (file .entry)) h g)) (groupsOf (h .frames)) ⌝ }
+    ensures { λ r. ⌜ r ≡ inOrder (λ g. checkGroup h format (groupBytes (now (file .entry)) h g)) (groupsOf (h .frames)) ⌝ }
 {
-    let groups = header::groups_of(h.frames);
+    let frames = h.frames;
+    let groups = frames.groups();
     let mut g: u32 = 0;
     while g < groups {
         let a = opening::offset_of(file, h, g);

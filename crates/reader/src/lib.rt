@@ -6,12 +6,10 @@ use crate::checking::check_decode;
 use crate::writing::write_groups;
 use format::Answer;
 use format::Checked;
-use format::Frames;
 use format::Outcome;
 use format::Refusal;
 use lent::Container;
 ghost use mathlib.Core.Path.{_≡_};
-ghost use lib.ListN.{length};
 ghost use Rattle.format.specs.Promises.{Decodes};
 ghost use Rattle.lent.specs.Lent.{lentOf, restOf};
 
@@ -24,9 +22,9 @@ pub fn decode_lent(which: Container, file: &[u8], words: &mut [i32], bytes: &mut
         return Answer::refused(r);
     }
     let h = header::read_fields(file);
-    let frames = Frames(h.frames);
+    let frames = h.frames;
     let samples = frames.samples(h.channels);
-    if (lent::count(which, words, bytes) as u64) < samples.0 {
+    if lent::count(which, words, bytes).0 < samples.0 {
         return Answer::refused(Refusal::OutputTooShort);
     }
     write_groups(which, words, bytes, file, h, opening::format_of(file, h));

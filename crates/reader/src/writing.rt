@@ -22,17 +22,18 @@ pub fn write_groups(
     h: Fields,
     format: SampleFormat,
 )
-    requires { ⌜ (checkDecode (now file) ≡ Fine) × (h ≡ fieldsOf (now file)) × (format ≡ formatOf (now file) h) × (h .frames * h .channels ≤ length (lentOf which (now words) (now bytes))) ⌝ }
+    requires { ⌜ (checkDecode (now file) ≡ Fine) × (h ≡ fieldsOf (now file)) × (format ≡ formatOf (now file) h) × (h .frames .0 * h .channels ≤ length (lentOf which (now words) (now bytes))) ⌝ }
     ensures puts { λ _. ⌜ lentOf which (now (words .exit)) (now (bytes .exit)) ≡ over (decodedOf (now (file .entry))) (lentOf which (now (words .entry)) (now (bytes .entry))) ⌝ }
     ensures keeps { λ _. ⌜ restOf which (now (words .exit)) (now (bytes .exit)) ≡ restOf which (now (words .entry)) (now (bytes .entry)) ⌝ }
 {
-    let groups = header::groups_of(h.frames);
+    let frames = h.frames;
+    let groups = frames.groups();
     let mut g: u32 = 0;
     while g < groups {
         let a = opening::offset_of(file, h, g);
         let e = opening::offset_of(file, h, g + 1);
         let first = Depth::SAMPLES_PER_BLOCK * g as usize;
-        let n = group::active(h.frames, g);
+        let n = frames.active(g).0 as usize;
         group::write_group(which, words, bytes, &file[a..e], h, format, first, 0, n);
         g += 1;
     }

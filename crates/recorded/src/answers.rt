@@ -4,12 +4,19 @@ use crate::read_u16;
 use crate::read_u32;
 use crate::room::checksum;
 use crate::room::is_kept;
+use crate::room::room_length;
 use format::Answer;
 use format::Outcome;
 use format::Refusal;
 use lent::Container;
+ghost use mathlib.Core.Path.{_≡_};
+ghost use Rattle.format.specs.Numbers.{codeOf};
+ghost use Rattle.lent.specs.Lent.{lentOf};
+ghost use Rattle.recorded.specs.Said.{saidLength, saidRefused, saidSamples, saidBy, saidByHost};
+ghost use Rattle.recorded.specs.Said.{recordedRefusal, isRecorded, verdictOf};
 
-// The number of a refusal, and 4's bits word; 0 where the call was accepted: then how many bytes of its room it wrote, and their sum. 255 where a walk is done.
+// The number of a refusal, and 4's bits word; 0 where the call was accepted: then how many bytes of its room it wrote,
+// and their sum. 255 where a walk is done.
 pub struct Recorded {
     pub number: u32,
     pub bits: u16,
@@ -24,7 +31,9 @@ pub struct Verdict {
     pub length: u64,
 }
 
-pub fn judged(is_same: bool, want: Recorded) -> Verdict {
+pub fn judged(is_same: bool, want: Recorded) -> Verdict
+    ensures { λ r. ⌜ r ≡ verdictOf «is_same» want ⌝ }
+{
     Verdict {
         is_same,
         number: want.number,
@@ -32,7 +41,9 @@ pub fn judged(is_same: bool, want: Recorded) -> Verdict {
     }
 }
 
-fn refused(number: u32, bits: u16) -> Recorded {
+fn refused(number: u32, bits: u16) -> Recorded
+    ensures { λ r. ⌜ r ≡ recordedRefusal number bits ⌝ }
+{
     Recorded {
         number,
         bits,
@@ -67,13 +78,17 @@ pub struct Said {
     pub length: u64,
 }
 
-fn bits_word(bits: i16) -> u16 {
+fn bits_word(bits: i16) -> u16
+    ensures { λ r. ⌜ r ≡ codeOf 16 bits ⌝ }
+{
     (sample::bits_of(bits as i32) % 65536) as u16
 }
 
-fn of_refusal(r: Refusal) -> Said {
-    let number = r.number();
-    let bits = if let Refusal::BitsWord(bits) = r {
+fn of_refusal(refusal: Refusal) -> Said
+    ensures { λ r. ⌜ r ≡ saidRefused refusal ⌝ }
+{
+    let number = refusal.number();
+    let bits = if let Refusal::BitsWord(bits) = refusal {
         bits_word(bits)
     } else {
         0
@@ -85,7 +100,9 @@ fn of_refusal(r: Refusal) -> Said {
     }
 }
 
-fn accepted(length: u64) -> Said {
+fn accepted(length: u64) -> Said
+    ensures { λ r. ⌜ r ≡ saidLength length ⌝ }
+{
     Said {
         number: 0,
         bits: 0,
@@ -93,7 +110,9 @@ fn accepted(length: u64) -> Said {
     }
 }
 
-fn of_samples(n: u64) -> Said {
+fn of_samples(n: u64) -> Said
+    ensures { λ r. ⌜ r ≡ saidSamples n ⌝ }
+{
     if n < 0x1_0000_0000 {
         accepted(4 * n)
     } else {
@@ -101,7 +120,9 @@ fn of_samples(n: u64) -> Said {
     }
 }
 
-pub fn of_answer(answer: Answer) -> Said {
+pub fn of_answer(answer: Answer) -> Said
+    ensures { λ r. ⌜ r ≡ saidBy (answer .outcome) ⌝ }
+{
     let outcome = answer.outcome;
     match outcome {
         Outcome::Read(samples) => of_samples(samples.0),
@@ -117,7 +138,9 @@ pub fn of_answer(answer: Answer) -> Said {
 }
 
 // The boundary tells no bits word: the recorded one is not asked for.
-pub fn of_result(result: u64, bits: u16) -> Said {
+pub fn of_result(result: u64, bits: u16) -> Said
+    ensures { λ r. ⌜ r ≡ saidByHost result bits ⌝ }
+{
     if result < 0x8000_0000_0000_0000 {
         return accepted(result);
     }
@@ -135,7 +158,9 @@ pub fn is_recorded(
     which: Container,
     words: &[i32],
     bytes: &[u8],
-) -> bool {
+) -> bool
+    ensures { λ r. ⌜ r ≡ isRecorded said want (lentOf which (now (words .entry)) (now (bytes .entry))) ⌝ }
+{
     if said.number != want.number {
         return false;
     }
@@ -146,7 +171,7 @@ pub fn is_recorded(
         return false;
     }
     let n = (want.length / 4) as usize;
-    if lent::count(which, words, bytes) < n {
+    if room_length(which, words, bytes) < n {
         return false;
     }
     if checksum(which, words, bytes, n) != want.sum {

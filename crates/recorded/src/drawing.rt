@@ -1,7 +1,11 @@
 // Drawn numbers: x becomes 48271 x modulo 2147483647, and the value is `low` plus x modulo `range`, or plus twice that.
 use std::num::wrapping_add_u32;
 use write_bytes::put_u32_le;
-ghost use Prim.Native.Nat.{_<_};
+ghost use mathlib.Core.Path.{_≡_};
+ghost use Prim.Native.Nat.{_/_};
+ghost use lib.ListN.{length};
+ghost use Rattle.format.specs.Lists.{over};
+ghost use Rattle.recorded.specs.Drawn.{nextOf, valueOf, numberOf, drawn, drawnInto};
 
 pub struct Drawn {
     pub seed: u32,
@@ -25,18 +29,20 @@ pub fn read_drawn(list: i32) -> Drawn {
     }
 }
 
-fn next(x: u64) -> u64
-    ensures { λ r. ⌜ r < 2147483647 ⌝ }
+fn next(x: u32) -> u32
+    ensures { λ r. ⌜ r ≡ nextOf x ⌝ }
 {
-    x % 4294967296 * 48271 % 2147483647
+    (x as u64 * 48271 % 2147483647) as u32
 }
 
-fn value(x: u64, d: Drawn) -> u32 {
-    let range = d.range as u64;
+fn value(x: u32, d: Drawn) -> u32
+    ensures { λ r. ⌜ r ≡ valueOf d x ⌝ }
+{
+    let range = d.range;
     if range == 0 {
         return d.low;
     }
-    let rest = (x % range % 0x1_0000_0000) as u32;
+    let rest = x % range;
     let value = wrapping_add_u32(d.low, rest);
     if d.is_doubled {
         wrapping_add_u32(value, rest)
@@ -46,7 +52,9 @@ fn value(x: u64, d: Drawn) -> u32 {
 }
 
 // In steps each number is the one before plus its value.
-fn number_after(before: u32, x: u64, d: Drawn) -> u32 {
+fn number_after(before: u32, x: u32, d: Drawn) -> u32
+    ensures { λ r. ⌜ r ≡ numberOf d before x ⌝ }
+{
     if d.in_steps {
         wrapping_add_u32(before, value(x, d))
     } else {
@@ -54,9 +62,11 @@ fn number_after(before: u32, x: u64, d: Drawn) -> u32 {
     }
 }
 
-fn fill(part: &mut [u8], d: Drawn) {
+fn fill(part: &mut [u8], d: Drawn)
+    ensures { λ _. ⌜ now (part .exit) ≡ over (drawn d (length (now (part .entry)) / 4)) (now (part .entry)) ⌝ }
+{
     let n = part.len() / 4;
-    let mut x = d.seed as u64;
+    let mut x = d.seed;
     let mut number: u32 = 0;
     let mut i: usize = 0;
     while i < n {
@@ -68,7 +78,9 @@ fn fill(part: &mut [u8], d: Drawn) {
 }
 
 // n drawn numbers, 4 bytes each, from `at` on in the space that is lent, where they lie within it.
-pub fn draw(space: &mut [u8], at: usize, n: usize, d: Drawn) {
+pub fn draw(space: &mut [u8], at: usize, n: usize, d: Drawn)
+    ensures { λ _. ⌜ now (space .exit) ≡ drawnInto d at n (now (space .entry)) ⌝ }
+{
     if space.len() < at {
         return;
     }

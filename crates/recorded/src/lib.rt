@@ -1,5 +1,7 @@
-// The list of recorded answers, read item by item: its numbers, what it puts into a space, and what was recorded of an answer. Behind the list's end every byte reads as 0.
+// The list of recorded answers, read item by item: its numbers, what it puts into a space, and what was recorded of an
+// answer. Behind the list's end every byte reads as 0.
 mod answers;
+mod bytes;
 mod drawing;
 mod room;
 
@@ -11,15 +13,21 @@ pub use answers::judged;
 pub use answers::of_answer;
 pub use answers::of_result;
 pub use answers::read_recorded;
+pub use bytes::fill_bytes;
+pub use bytes::is_answered;
 pub use drawing::Drawn;
 pub use drawing::draw;
 pub use drawing::read_drawn;
 use read_bytes::read_u16_le;
 use read_bytes::read_u32_le;
 pub use room::fill;
+pub use room::room_length;
 pub use room::spoil;
+ghost use mathlib.Core.Path.{_≡_};
 
-fn wide(x: u8) -> u32 {
+fn wide(x: u8) -> u32
+    ensures { λ r. ⌜ r ≡ x ⌝ }
+{
     x as u32
 }
 

@@ -13,10 +13,11 @@ use format::PcmSpec;
 use report::print;
 use template::encode_pcm_with_template;
 ghost use mathlib.Core.Path.{_≡_};
-ghost use lib.ListN.{length};
+ghost use lib.ListN.{replicate};
+ghost use lib.IntN.{pos};
 
 fn room() -> [i32; 131072]
-    ensures { λ r. ⌜ 131072 ≡ length r ⌝ }
+    ensures { λ r. ⌜ r ≡ replicate 131072 (pos 0) ⌝ }
 {
     [0; 131072]
 }

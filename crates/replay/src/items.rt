@@ -4,10 +4,14 @@ use recorded::read_u16;
 use recorded::read_u32;
 use std::num::wrapping_add_u64;
 ghost use mathlib.Core.Path.{_≡_};
+ghost use Prim.Native.Nat.{min};
+ghost use lib.ListN.{length};
 ghost use Rattle.io.specs.Counts.{Counts};
+ghost use Rattle.replay.specs.Places.{startOf};
+ghost use Rattle.replay.specs.Spaces.{kept};
 
-// How many items were read. How many bytes of their spaces the file and the samples are, and how many were read and written last; the settings; whether the next answer is
-// false on purpose, and where its room is changed on purpose.
+// How many items were read. How many bytes of their spaces the file and the samples are, and how many were read and
+// written last; the settings; whether the next answer is false on purpose, and where its room is changed on purpose.
 pub struct Place {
     pub items: u64,
     pub file: usize,
@@ -24,7 +28,9 @@ pub struct Place {
 // No room reaches so far.
 pub const NOWHERE: usize = 65536;
 
-pub fn start() -> Place {
+pub fn start() -> Place
+    ensures { λ r. ⌜ r ≡ startOf ⌝ }
+{
     Place {
         items: 0,
         file: 0,
@@ -41,7 +47,8 @@ pub fn start() -> Place {
 
 // At most n bytes of the space.
 pub fn part(space: &[u8], n: usize) -> usize
-    ensures { λ r. ⌜ Counts r (now (space .entry)) ⌝ }
+    ensures is { λ r. ⌜ r ≡ min n (length (now (space .entry))) ⌝ }
+    ensures counts { λ r. ⌜ Counts r (now (space .entry)) ⌝ }
 {
     if n < space.len() { n } else { space.len() }
 }
@@ -60,7 +67,9 @@ fn draw(list: i32, space: &mut [u8]) {
 }
 
 // The first n bytes of the room, at the start of the space.
-fn keep(space: &mut [u8], room: &[u8], n: usize) {
+fn keep(space: &mut [u8], room: &[u8], n: usize)
+    ensures { λ _. ⌜ now (space .exit) ≡ kept (now (space .entry)) (now (room .entry)) n ⌝ }
+{
     let n = part(room, n);
     if n <= space.len() {
         write_bytes::copy(space, &room[..n]);

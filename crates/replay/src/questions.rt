@@ -7,12 +7,14 @@ use recorded::Verdict;
 use recorded::read_u16;
 use recorded::read_u32;
 ghost use mathlib.Core.Path.{_≡_};
-ghost use Prim.Native.Nat.{_≤_};
+ghost use Prim.Native.Nat.{_≤_, min};
 ghost use lib.ListN.{length, take};
+ghost use Rattle.replay.specs.Places.{specOf, placeAfter};
 
 // At most n samples of the room.
 fn words_of(room: &[i32], n: usize) -> usize
-    ensures { λ r. ⌜ (r ≤ length (now (room .entry))) × (r ≡ length (take r (now (room .entry)))) ⌝ }
+    ensures is { λ r. ⌜ r ≡ min n (length (now (room .entry))) ⌝ }
+    ensures counts { λ r. ⌜ (r ≤ length (now (room .entry))) × (r ≡ length (take r (now (room .entry)))) ⌝ }
 {
     if n < room.len() { n } else { room.len() }
 }
@@ -44,7 +46,9 @@ fn step(list: i32, place: Place, file: &[u8], words: &mut [i32]) -> Verdict {
     asked_reading::step(list, &file[..n], group, place.spoiled, &mut words[..m])
 }
 
-fn spec_of(place: Place) -> PcmSpec {
+fn spec_of(place: Place) -> PcmSpec
+    ensures { λ r. ⌜ r ≡ specOf place ⌝ }
+{
     PcmSpec {
         channels: place.channels,
         bits_per_sample: place.depth,
@@ -102,7 +106,9 @@ fn ask(
 }
 
 // Nothing is false on purpose any more; what was read or written can be kept.
-fn place_after(kind: u32, place: Place, verdict: Verdict) -> Place {
+fn place_after(kind: u32, place: Place, verdict: Verdict) -> Place
+    ensures { λ r. ⌜ r ≡ placeAfter kind place verdict ⌝ }
+{
     let mut after = place;
     after.is_false = false;
     after.spoiled = NOWHERE;

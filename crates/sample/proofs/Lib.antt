@@ -2,3 +2,4 @@
 pub mod Words
 pub mod Nans
 pub mod Halving
+pub mod Equals

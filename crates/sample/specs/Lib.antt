@@ -1,2 +1,3 @@
 pub mod Patterns
 pub mod Raised
+pub mod Equal

@@ -5,7 +5,7 @@ ghost use mathlib.Core.Path.{_≡_};
 ghost use mathlib.Core.Bool.{true};
 ghost use Prim.Native.Nat.{_+_, _*_, _<_, _≤_};
 ghost use lib.ListN.{length};
-ghost use Rattle.format.specs.Encoding.{midSide, parity, plain};
+ghost use Rattle.format.specs.Encoding.{midSide, parity, unwoven};
 ghost use Rattle.lent.specs.Lent.{lentOf, framesFrom};
 
 // Two channels of left and right as mid and side.
@@ -38,7 +38,7 @@ pub fn parity(a: [[i32; 512]; 2]) -> bool
 // The same of the n frames from `first` on: padded frames never change it.
 pub fn frames_parity(which: Container, words: &[i32], bytes: &[u8], first: usize, n: usize) -> bool
     requires { ⌜ (0 < n) × (n ≤ 512) × ((first + n) * 2 ≤ length (lentOf which (now words) (now bytes))) ⌝ }
-    ensures { λ r. ⌜ r ≡ parity (plain 2 (framesFrom 2 first n (lentOf which (now (words .entry)) (now (bytes .entry))))) ⌝ }
+    ensures { λ r. ⌜ r ≡ parity (unwoven 2 (framesFrom 2 first n (lentOf which (now (words .entry)) (now (bytes .entry))))) ⌝ }
 {
     parity(lent::split(which, words, bytes, first, n))
 }

@@ -8,10 +8,10 @@ use lib.IntN.{ℤ}
 use lib.ListN.{length, take, drop, length-take, length-drop}
 use lib.Seq.{sets, length-sets}
 use Rattle.format.specs.Lists.{joined, over}
-use Rattle.format.specs.Header.{fieldsOf, groupsOf, entry, group}
-use Rattle.format.specs.Decoding.{active}
+use Rattle.format.specs.Header.{fieldsOf, groupsOf, entry, groupBytes}
+use Rattle.format.specs.Units.{active}
 use Rattle.format.specs.Encoding.{groupIn}
-use Rattle.format.specs.Reencoding.{checkNewGroup, newGroup, checkReencode, refileOf}
+use Rattle.format.specs.Reencoding.{checkReencodeGroup, reencodedGroup, checkReencode, reencodedFile}
 use Rattle.format.specs.declared.refusals.Checked.the-variants.{Fine}
 use Rattle.format.specs.declared.settings.PcmSpec.{PcmSpec}
 use Rattle.format.specs.declared.answers.Fields.{Fields}
@@ -23,7 +23,7 @@ use Rattle.template.proofs.Groups.{partOf, part-rises, part-within, par
 
 -- the new groups
 abbrev pub newGroups : List ℤ → List ℕ → ℕ → List ℕ
-newGroups s t g = newGroup (fieldsOf t .depth) (fieldsOf t .channels) (group t (fieldsOf t) g) (groupIn (fieldsOf t .channels) s g)
+newGroups s t g = reencodedGroup (fieldsOf t .depth) (fieldsOf t .channels) (groupBytes t (fieldsOf t) g) (groupIn (fieldsOf t .channels) s g)
 
 -- out with the first g of them in their places
 abbrev pub laid : List ℤ → List ℕ → List ℕ → ℕ → List ℕ
@@ -67,16 +67,16 @@ module _ (p : PcmSpec) (s : List ℤ) (t : List ℕ) (ok : checkReencode p s t �
 
     -- with its n active frames
     module _ (n : ℕ) (count : n ≡ active (h .frames) g) where
-      pub group-fine : checkNewGroup (p .«bits_per_sample») (p .channels) (partOf t h x y) (framesFrom (p .channels) (512 * g) n s) ≡ Fine
+      pub group-fine : checkReencodeGroup (p .«bits_per_sample») (p .channels) (partOf t h x y) (framesFrom (p .channels) (512 * g) n s) ≡ Fine
       group-fine = part-fine p s t h (template-ok p s t ok) reads groups g all below (samples-ok p s t ok) n count x y starts ends (rw reads (groups-ok p s t ok g inside))
 
-      new-is : newGroup (p .«bits_per_sample») (p .channels) (partOf t h x y) (framesFrom (p .channels) (512 * g) n s) ≡ newGroups s t g
+      new-is : reencodedGroup (p .«bits_per_sample») (p .channels) (partOf t h x y) (framesFrom (p .channels) (512 * g) n s) ≡ newGroups s t g
       new-is =
           part-new p s t h (template-ok p s t ok) reads groups g all below (samples-ok p s t ok) n count x y starts ends
-          ∙ ap (λ (f : Fields). newGroup (f .depth) (f .channels) (group t f g) (groupIn (f .channels) s g)) reads
+          ∙ ap (λ (f : Fields). reencodedGroup (f .depth) (f .channels) (groupBytes t f g) (groupIn (f .channels) s g)) reads
 
       pub turn-laid : (out d ys : List ℕ) → length t ≤ length out → d ≡ laid s t out g
-          → ys ≡ over (newGroup (p .«bits_per_sample») (p .channels) (partOf t h x y) (framesFrom (p .channels) (512 * g) n s)) (take (length d - (h .start + x)) (drop (h .start + x) d))
+          → ys ≡ over (reencodedGroup (p .«bits_per_sample») (p .channels) (partOf t h x y) (framesFrom (p .channels) (512 * g) n s)) (take (length d - (h .start + x)) (drop (h .start + x) d))
           → take (h .start + x) d ++ (ys ++ drop (length d - (h .start + x)) (drop (h .start + x) d)) ≡ laid s t out (g + 1)
       unfolding joined
       turn-laid out d ys room e put =
@@ -97,7 +97,7 @@ module _ (p : PcmSpec) (s : List ℤ) (t : List ℕ) (ok : checkReencode p s t �
     pub copy-long : length t ≤ length d
     copy-long = omega (arith, ap length copied ∙ length-over t out room)
 
-    pub file-put : (d′ : List ℕ) → d′ ≡ laid s t d (groupsOf (fieldsOf t .frames)) → d′ ≡ over (refileOf s t) out
+    pub file-put : (d′ : List ℕ) → d′ ≡ laid s t d (groupsOf (fieldsOf t .frames)) → d′ ≡ over (reencodedFile s t) out
     file-put d′ put =
         let i = fieldsOf t .start in
         let J = joined (newGroups s t) (groupsOf (fieldsOf t .frames)) in

@@ -6,10 +6,10 @@ use native.Mathlib.Omega.{arith}
 use lib.IntN.{ℤ}
 use lib.ListN.{length, take, drop}
 use Rattle.format.specs.Lists.{from}
-use Rattle.format.specs.Header.{fieldsOf, groupsOf, entry, group}
-use Rattle.format.specs.Decoding.{active}
+use Rattle.format.specs.Header.{fieldsOf, groupsOf, entry, groupBytes}
+use Rattle.format.specs.Units.{active}
 use Rattle.format.specs.Encoding.{groupIn, checkSamples}
-use Rattle.format.specs.Reencoding.{checkTemplate, checkReencoder, checkNewGroup, newGroup}
+use Rattle.format.specs.Reencoding.{checkTemplate, checkReencoder, checkReencodeGroup, reencodedGroup}
 use Rattle.format.specs.declared.refusals.Checked.{Checked}
 use Rattle.format.specs.declared.refusals.Checked.the-variants.{Fine}
 use Rattle.format.specs.declared.settings.PcmSpec.{PcmSpec}
@@ -69,15 +69,15 @@ module _ (p : PcmSpec) (s : List ℤ) (t : List ℕ) (h : Fields) (template : ch
           let l : h .start + entry t h (g + 1) ≤ length t = rw reads (files.entry-within p s t template (g + 1) (omega (arith, rw reads at inside))) in
           omega arith
 
-      pub part-is : partOf t h x y ≡ group t h g
-      unfolding group from
+      pub part-is : partOf t h x y ≡ groupBytes t h g
+      unfolding groupBytes from
       part-is =
           let n : h .start + y - (h .start + x) ≡ entry t h (g + 1) - entry t h g = omega arith in
           ap₂ (λ (i j : ℕ). take i (drop (h .start + j) t)) n starts
 
     -- its n active frames
     module _ (samples : checkSamples p s ≡ Fine) (n : ℕ) (count : n ≡ active (h .frames) g) where
-      all-frames : length s ≡ p .channels * h .frames
+      all-frames : length s ≡ p .channels * h .frames .0
       all-frames = rw (← channels-are) (rw reads (files.all-frames p s t template samples))
 
       pub frames-some : 0 < n
@@ -93,25 +93,25 @@ module _ (p : PcmSpec) (s : List ℤ) (t : List ℕ) (h : Fields) (template : ch
         -- what is made of that part and of those frames is made of the group
         part-same : {A : Type 0} (f : ℕ → ℕ → List ℕ → List ℤ → A)
             → f (p .«bits_per_sample») (p .channels) (partOf t h x y) (framesFrom (p .channels) (512 * g) n s)
-            ≡ f (h .depth) (h .channels) (group t h g) (groupIn (h .channels) s g)
+            ≡ f (h .depth) (h .channels) (groupBytes t h g) (groupIn (h .channels) s g)
         part-same f =
             ap₂ (f (p .«bits_per_sample») (p .channels)) (part-is x y starts ends) frames-are
-            ∙ ap₂ (λ (d c : ℕ). f d c (group t h g) (groupIn c s g)) (sym bits-are) (sym channels-are)
+            ∙ ap₂ (λ (d c : ℕ). f d c (groupBytes t h g) (groupIn c s g)) (sym bits-are) (sym channels-are)
 
         pub part-new :
-            newGroup (p .«bits_per_sample») (p .channels) (partOf t h x y) (framesFrom (p .channels) (512 * g) n s)
-            ≡ newGroup (h .depth) (h .channels) (group t h g) (groupIn (h .channels) s g)
-        part-new = part-same newGroup
+            reencodedGroup (p .«bits_per_sample») (p .channels) (partOf t h x y) (framesFrom (p .channels) (512 * g) n s)
+            ≡ reencodedGroup (h .depth) (h .channels) (groupBytes t h g) (groupIn (h .channels) s g)
+        part-new = part-same reencodedGroup
 
         pub part-fine :
-            checkNewGroup (h .depth) (h .channels) (group t h g) (groupIn (h .channels) s g) ≡ Fine
-            → checkNewGroup (p .«bits_per_sample») (p .channels) (partOf t h x y) (framesFrom (p .channels) (512 * g) n s) ≡ Fine
-        part-fine e = part-same checkNewGroup ∙ e
+            checkReencodeGroup (h .depth) (h .channels) (groupBytes t h g) (groupIn (h .channels) s g) ≡ Fine
+            → checkReencodeGroup (p .«bits_per_sample») (p .channels) (partOf t h x y) (framesFrom (p .channels) (512 * g) n s) ≡ Fine
+        part-fine e = part-same checkReencodeGroup ∙ e
 
         -- its checks, as they were made
         pub part-checked :
             (k r : Checked)
-            → k ≡ checkNewGroup (p .«bits_per_sample») (p .channels) (partOf t h x y) (framesFrom (p .channels) (512 * g) n s)
+            → k ≡ checkReencodeGroup (p .«bits_per_sample») (p .channels) (partOf t h x y) (framesFrom (p .channels) (512 * g) n s)
             → k ≡ r
-            → checkNewGroup (h .depth) (h .channels) (group t h g) (groupIn (h .channels) s g) ≡ r
-        part-checked k r says e = sym (part-same checkNewGroup) ∙ sym says ∙ e
+            → checkReencodeGroup (h .depth) (h .channels) (groupBytes t h g) (groupIn (h .channels) s g) ≡ r
+        part-checked k r says e = sym (part-same checkReencodeGroup) ∙ sym says ∙ e

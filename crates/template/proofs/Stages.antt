@@ -9,11 +9,11 @@ use lib.ListN.{length}
 use lib.Dec.{leb}
 use borrow.Author.Tests.{le-ltb, le-leb, lt-leb}
 use Rattle.format.specs.Lists.{anyBelow}
-use Rattle.format.specs.Header.{isSignature, fieldsOf, groupsOf, entry, group}
+use Rattle.format.specs.Header.{isSignature, fieldsOf, groupsOf, entry, groupBytes}
 use Rattle.format.specs.Refusals.{refuse, _then_, inOrder}
 use Rattle.format.specs.Opening.{checkOffsets}
 use Rattle.format.specs.Encoding.{groupIn, checkSamples}
-use Rattle.format.specs.Reencoding.{checkReencoder, checkSame, checkBounds, checkRising, checkTemplate, checkNewGroup, checkReencode}
+use Rattle.format.specs.Reencoding.{checkReencoder, checkSame, checkBounds, checkRising, checkTemplate, checkReencodeGroup, checkReencode}
 use Rattle.format.specs.declared.refusals.Refusal.{Refusal}
 use Rattle.format.specs.declared.refusals.Refusal.the-variants.{TemplateBounds}
 use Rattle.format.specs.declared.refusals.Checked.{Checked}
@@ -86,7 +86,7 @@ module _ (t : List ℕ) (h : Fields) (k : ℕ) where
 -- ---- 40, 41, 42, after 1 and 2
 pub template-signed : (p : PcmSpec) (s : List ℤ) (t : List ℕ) → 120 ≤ length t → (m : Bool) → m ≡ isSignature t → m ≡ true
     → (h : Fields) → h ≡ fieldsOf t → (f : Frames) → f .0 ≡ length s / p .channels
-    → (k : Checked) → k ≡ (checkSame p (f .0) h then checkBounds h (length t) then checkRising t h) → k ≡ checkTemplate p s t
+    → (k : Checked) → k ≡ (checkSame p f h then checkBounds h (length t) then checkRising t h) → k ≡ checkTemplate p s t
 unfolding checkTemplate refuse _then_
 template-signed p s t long m signed is h reads f counts k e = rw (le-ltb (length t) 120 long, ← signed, is, ← reads, ← counts) e
 
@@ -97,7 +97,7 @@ template-long p s t d template passes = omega (arith, long-ok p s t (sym templat
 pub groups-rest : (p : PcmSpec) (s : List ℤ) (t : List ℕ) (h : Fields) → h ≡ fieldsOf t
     → (k : Checked)
     → k ≡ (checkReencoder p then checkSamples p s then checkTemplate p s t
-    then inOrder (λ g. checkNewGroup (h .depth) (h .channels) (group t h g) (groupIn (h .channels) s g)) (groupsOf (h .frames)))
+    then inOrder (λ g. checkReencodeGroup (h .depth) (h .channels) (groupBytes t h g) (groupIn (h .channels) s g)) (groupsOf (h .frames)))
     → k ≡ checkReencode p s t
 unfolding checkReencode
 groups-rest p s t h reads k e = rw (← reads) e

@@ -2,6 +2,7 @@
 use format::Checked;
 use format::Depth;
 use format::Fields;
+use format::Frames;
 use format::PcmSpec;
 use format::Refusal;
 use lent::Container;
@@ -10,15 +11,15 @@ ghost use Prim.Native.Nat.{_+_, _*_, _≤_};
 ghost use lib.Dec.{leb};
 ghost use lib.ListN.{length};
 ghost use Rattle.format.specs.Lists.{anyBelow};
-ghost use Rattle.format.specs.Header.{fieldsOf, groupsOf, entry, group};
+ghost use Rattle.format.specs.Header.{fieldsOf, groupsOf, entry, groupBytes};
 ghost use Rattle.format.specs.Refusals.{inOrder};
 ghost use Rattle.format.specs.Encoding.{groupIn, checkSamples};
-ghost use Rattle.format.specs.Reencoding.{checkReencoder, checkNewGroup, checkSame, checkBounds, checkRising, checkTemplate, checkReencode};
+ghost use Rattle.format.specs.Reencoding.{checkReencoder, checkReencodeGroup, checkSame, checkBounds, checkRising, checkTemplate, checkReencode};
 ghost use Rattle.format.specs.declared.refusals.Checked.the-variants.{Fine};
 ghost use Rattle.lent.specs.Lent.{lentOf};
 
 // 40.
-fn check_same(p: PcmSpec, frames: u32, h: Fields) -> Checked
+fn check_same(p: PcmSpec, frames: Frames, h: Fields) -> Checked
     ensures { λ r. ⌜ r ≡ checkSame p frames h ⌝ }
 {
     if h.channels != p.channels {
@@ -30,7 +31,7 @@ fn check_same(p: PcmSpec, frames: u32, h: Fields) -> Checked
     if h.rate != p.sample_rate {
         return Checked::No(Refusal::TemplateDiffers);
     }
-    if h.frames != frames {
+    if h.frames.0 != frames.0 {
         return Checked::No(Refusal::TemplateDiffers);
     }
     Checked::Fine
@@ -66,7 +67,8 @@ fn check_rising(t: &[u8], h: Fields) -> Checked
     requires { ⌜ h .table + 4 * (groupsOf (h .frames) + 1) ≤ length (now t) ⌝ }
     ensures { λ r. ⌜ r ≡ checkRising (now (t .entry)) h ⌝ }
 {
-    let groups = header::groups_of(h.frames);
+    let frames = h.frames;
+    let groups = frames.groups();
     if header::entry_at(t, h, 0) != 0 {
         return Checked::No(Refusal::TemplateOffsets);
     }
@@ -92,7 +94,7 @@ fn check_template(which: Container, words: &[i32], bytes: &[u8], p: PcmSpec, t: 
     }
     let h = header::read_fields(t);
     let frames = pcm::frames_of(which, words, bytes, p.channels);
-    if let Checked::No(r) = check_same(p, frames.0, h) {
+    if let Checked::No(r) = check_same(p, frames, h) {
         return Checked::No(r);
     }
     if let Checked::No(r) = check_bounds(h, t.len()) {
@@ -111,20 +113,21 @@ fn check_groups(
     h: Fields,
 ) -> Checked
     requires { ⌜ (checkReencoder p ≡ Fine) × (checkSamples p (lentOf which (now words) (now bytes)) ≡ Fine) × (checkTemplate p (lentOf which (now words) (now bytes)) (now t) ≡ Fine) × (h ≡ fieldsOf (now t)) ⌝ }
-    ensures { λ r. ⌜ r ≡ inOrder (λ g. checkNewGroup (h .depth) (h .channels) (group (now (t .entry)) h g) (groupIn (h .channels) (lentOf which (now (words .entry)) (now (bytes .entry))) g)) (groupsOf (h .frames)) ⌝ }
+    ensures { λ r. ⌜ r ≡ inOrder (λ g. checkReencodeGroup (h .depth) (h .channels) (groupBytes (now (t .entry)) h g) (groupIn (h .channels) (lentOf which (now (words .entry)) (now (bytes .entry))) g)) (groupsOf (h .frames)) ⌝ }
 {
     let start = h.start as usize;
-    let groups = header::groups_of(h.frames);
+    let frames = h.frames;
+    let groups = frames.groups();
     let mut g: u32 = 0;
     while g < groups {
         let a = start + header::entry_at(t, h, g) as usize;
         let e = start + header::entry_at(t, h, g + 1) as usize;
-        let n = group::active(h.frames, g);
+        let n = frames.active(g).0 as usize;
         if let Checked::No(r) = template_group::check_new_group(
             which,
             words,
             bytes,
-            512 * g as usize,
+            Depth::SAMPLES_PER_BLOCK * g as usize,
             n,
             p.channels,
             p.bits_per_sample,

@@ -13,7 +13,7 @@ use lent::Container;
 ghost use Rattle.format.specs.Promises.{Reencodes};
 ghost use Rattle.lent.specs.Lent.{lentOf};
 
-// Re-encoding from either container.
+// Re-encoding from either container. Of bytes the whole samples are taken, as in `writer::encode_lent`.
 pub fn reencode_lent(
     which: Container,
     words: &[i32],

@@ -1,4 +1,5 @@
 // The file: the template's bytes, and over them each new group in its own part.
+use format::Depth;
 use format::PcmSpec;
 use lent::Container;
 ghost use mathlib.Core.Path.{_≡_};
@@ -6,31 +7,32 @@ ghost use Prim.Native.Nat.{_≤_};
 ghost use lib.ListN.{length};
 ghost use lib.Seq.{sets};
 ghost use Rattle.format.specs.Lists.{over, joined};
-ghost use Rattle.format.specs.Header.{fieldsOf, groupsOf, group};
+ghost use Rattle.format.specs.Header.{fieldsOf, groupsOf, groupBytes};
 ghost use Rattle.format.specs.Encoding.{groupIn};
-ghost use Rattle.format.specs.Reencoding.{newGroup, checkReencode, refileOf};
+ghost use Rattle.format.specs.Reencoding.{reencodedGroup, checkReencode, reencodedFile};
 ghost use Rattle.format.specs.declared.refusals.Checked.the-variants.{Fine};
 ghost use Rattle.lent.specs.Lent.{lentOf};
 
 // Each group where the table says.
 fn write_groups(which: Container, words: &[i32], bytes: &[u8], p: PcmSpec, t: &[u8], out: &mut [u8])
     requires { ⌜ (checkReencode p (lentOf which (now words) (now bytes)) (now t) ≡ Fine) × (length (now t) ≤ length (now out)) ⌝ }
-    ensures { λ _. ⌜ now (out .exit) ≡ sets (now (out .entry)) (fieldsOf (now (t .entry)) .start) (joined (λ g. newGroup (fieldsOf (now (t .entry)) .depth) (fieldsOf (now (t .entry)) .channels) (group (now (t .entry)) (fieldsOf (now (t .entry))) g) (groupIn (fieldsOf (now (t .entry)) .channels) (lentOf which (now (words .entry)) (now (bytes .entry))) g)) (groupsOf (fieldsOf (now (t .entry)) .frames))) ⌝ }
+    ensures { λ _. ⌜ now (out .exit) ≡ sets (now (out .entry)) (fieldsOf (now (t .entry)) .start) (joined (λ g. reencodedGroup (fieldsOf (now (t .entry)) .depth) (fieldsOf (now (t .entry)) .channels) (groupBytes (now (t .entry)) (fieldsOf (now (t .entry))) g) (groupIn (fieldsOf (now (t .entry)) .channels) (lentOf which (now (words .entry)) (now (bytes .entry))) g)) (groupsOf (fieldsOf (now (t .entry)) .frames))) ⌝ }
 {
     let h = header::read_fields(t);
     let start = h.start as usize;
-    let groups = header::groups_of(h.frames);
+    let frames = h.frames;
+    let groups = frames.groups();
     let mut g: u32 = 0;
     while g < groups {
         let a = start + header::entry_at(t, h, g) as usize;
         let e = start + header::entry_at(t, h, g + 1) as usize;
-        let n = group::active(h.frames, g);
+        let n = frames.active(g).0 as usize;
         template_group::write_new_group(
             &mut out[a..],
             which,
             words,
             bytes,
-            512 * g as usize,
+            Depth::SAMPLES_PER_BLOCK * g as usize,
             n,
             p.channels,
             p.bits_per_sample,
@@ -49,7 +51,7 @@ pub fn write_file(
     out: &mut [u8],
 )
     requires { ⌜ (checkReencode p (lentOf which (now words) (now bytes)) (now t) ≡ Fine) × (length (now t) ≤ length (now out)) ⌝ }
-    ensures { λ _. ⌜ now (out .exit) ≡ over (refileOf (lentOf which (now (words .entry)) (now (bytes .entry))) (now (t .entry))) (now (out .entry)) ⌝ }
+    ensures { λ _. ⌜ now (out .exit) ≡ over (reencodedFile (lentOf which (now (words .entry)) (now (bytes .entry))) (now (t .entry))) (now (out .entry)) ⌝ }
 {
     write_bytes::copy(out, t);
     write_groups(which, words, bytes, p, t, out);

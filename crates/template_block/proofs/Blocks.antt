@@ -19,8 +19,8 @@ use Rattle.format.specs.Packed.{coding, widthOf, isBeyond, packing}
 use Rattle.format.specs.Blocks.{isBlock, bitsOf, codingOf, sizeOf}
 use Rattle.format.specs.Refusals.{refuse, _then_}
 use Rattle.format.specs.Answers.{filled}
-use Rattle.format.specs.Encoding.{head0}
-use Rattle.format.specs.Reencoding.{valuesFor, baseFor, newBlock, checkNewBlock}
+use Rattle.format.specs.Encoding.{firstValue}
+use Rattle.format.specs.Reencoding.{valuesFor, baseFor, reencodedBlock, checkReencodeBlock}
 use Rattle.format.specs.declared.packed.Coding.{Coding}
 use Rattle.format.specs.declared.packed.Coding.the-variants.{Differences, Raw, Beyond}
 use Rattle.format.specs.declared.refusals.Checked.{Checked}
@@ -49,28 +49,28 @@ module _ (depth : ℕ) (r : List ℕ) (xs : List ℤ) where
       unfolding blockHeader
       flags-are = sym (ap (λ (x : BlockHeader). x .flags) header)
 
-      pub other-flags : 1 < b .flags → No TemplateFlags ≡ checkNewBlock depth r xs
-      unfolding checkNewBlock refuse _then_
+      pub other-flags : 1 < b .flags → No TemplateFlags ≡ checkReencodeBlock depth r xs
+      unfolding checkReencodeBlock refuse _then_
       other-flags l = rw (le-ltb (length r) 16 long, ← mark, marked, ← word, ne-eqb w 0 not0, ne-eqb w 1 not1, flags-are, lt-ltb 1 (b .flags) l)
 
       -- with no flag but mid/side
       module _ (known-flags : b .flags ≤ 1) (fits : SFits w16 (b .bits)) (k : Coding) (coded : k ≡ coding depth (toZ w16 (ofZ w16 (b .bits)))) where
         -- what is left to check
-        others : (refuse (isBeyond k) (BitsWord (bitsOf r)) then refuse (ltb (length r) (sizeOf depth r)) TooShort then checkFit (widthOf k) (valuesFor depth r xs)) ≡ checkNewBlock depth r xs
-        unfolding checkNewBlock refuse _then_ checkFit
+        others : (refuse (isBeyond k) (BitsWord (bitsOf r)) then refuse (ltb (length r) (sizeOf depth r)) TooShort then checkFit (widthOf k) (valuesFor depth r xs)) ≡ checkReencodeBlock depth r xs
+        unfolding checkReencodeBlock refuse _then_ checkFit
         others =
             rw (le-ltb (length r) 16 long, ← mark, marked, ← word, ne-eqb w 0 not0, ne-eqb w 1 not1, flags-are, le-ltb 1 (b .flags) known-flags, coding-is depth r b header fits k coded)
 
-        pub bits-beyond : k ≡ Beyond → No (BitsWord (toZ w16 (ofZ w16 (b .bits)))) ≡ checkNewBlock depth r xs
+        pub bits-beyond : k ≡ Beyond → No (BitsWord (toZ w16 (ofZ w16 (b .bits)))) ≡ checkReencodeBlock depth r xs
         unfolding refuse _then_ isBeyond
         bits-beyond e = rw (← others, e, bits-are depth r b header fits)
 
         module _ (known : isBeyond k ≡ false) (n : ℕ) (size : n ≡ sizeOf depth r) where
-          pub no-values : length r < n → No TooShort ≡ checkNewBlock depth r xs
+          pub no-values : length r < n → No TooShort ≡ checkReencodeBlock depth r xs
           unfolding refuse _then_
           no-values l = rw (← others, known, ← size, lt-ltb (length r) n l)
 
-          pub fit-says : n ≤ length r → (vs : List ℤ) → vs ≡ valuesFor depth r xs → (d : ℕ) → d ≡ widthOf k → (c : Checked) → c ≡ checkFit d vs → c ≡ checkNewBlock depth r xs
+          pub fit-says : n ≤ length r → (vs : List ℤ) → vs ≡ valuesFor depth r xs → (d : ℕ) → d ≡ widthOf k → (c : Checked) → c ≡ checkFit d vs → c ≡ checkReencodeBlock depth r xs
           unfolding refuse _then_
           fit-says l vs v d wide c says = rw (← others, known, ← size, le-ltb (length r) n l, ← v, ← wide) says
 
@@ -113,7 +113,7 @@ module _ (r : List ℕ) (k : Coding) (first : ℤ) (xs d : List ℕ) (copied : d
 
   pub difference-header : 16 ≤ length r → (b : ℕ) → k ≡ Differences b → SFits w32 first → (code : ℕ) → code ≡ codeOf 32 (toZ w32 (ofZ w32 first)) → (after : List ℕ) → after ≡ sets d 4 (le 4 code)
       → after ≡ over (take 4 r ++ (baseFor k r (first ∷ []) ++ from 8 8 r)) xs
-  unfolding baseFor head0
+  unfolding baseFor firstValue
   difference-header long b e fits code c after put =
       let same : length (from 4 4 r) ≡ length (le 4 (codeOf 32 first)) = length-from 4 4 r (omega arith) ∙ sym (length-le 4 (codeOf 32 first)) in
       let four : length (take 4 r) ≡ 4 = length-take-le 4 r (omega arith) in
@@ -126,7 +126,7 @@ unfolding sizeOf
 header-room depth r n h = omega arith
 
 -- what passed
-module _ (depth : ℕ) (r : List ℕ) (xs : List ℤ) (fine : checkNewBlock depth r xs ≡ Fine) where
+module _ (depth : ℕ) (r : List ℕ) (xs : List ℤ) (fine : checkReencodeBlock depth r xs ≡ Fine) where
   told : Template depth r xs
   told = template-ok depth r xs fine
 
@@ -157,19 +157,19 @@ module _ (depth : ℕ) (r : List ℕ) (xs : List ℤ) (fine : checkNewBlock dept
 
 -- the base is the first of the active samples
 base-first : (k : Coding) (r : List ℕ) (zs : List ℤ) (m : ℕ) → 0 < m → baseFor k r (getD zs 0 (pos 0) ∷ []) ≡ baseFor k r (take m zs)
-unfolding baseFor head0
+unfolding baseFor firstValue
 base-first k r zs zero h = absurd (omega arith)
 base-first (Differences b) r [] (suc m) h = refl
 base-first (Differences b) r (z ∷ zs) (suc m) h = refl
 base-first (Raw b) r zs (suc m) h = refl
 base-first Beyond r zs (suc m) h = refl
 
-module _ (depth : ℕ) (r : List ℕ) (zs : List ℤ) (m : ℕ) (active : 0 < m) (fine : checkNewBlock depth r (take m zs) ≡ Fine) (b : BlockHeader) (header : b ≡ blockHeader r) (fits : SFits w16 (b .bits))
+module _ (depth : ℕ) (r : List ℕ) (zs : List ℤ) (m : ℕ) (active : 0 < m) (fine : checkReencodeBlock depth r (take m zs) ≡ Fine) (b : BlockHeader) (header : b ≡ blockHeader r) (fits : SFits w16 (b .bits))
     (k : Coding) (coded : k ≡ coding depth (toZ w16 (ofZ w16 (b .bits)))) (w : ℕ) (wide : w ≡ widthOf k) (n : ℕ) (size : n ≡ sizeOf depth r) (vs : List ℤ) (values : vs ≡ valuesFor depth r (take m zs))
     (xs d ys : List ℕ) (first : SFits w32 (getD zs 0 (pos 0))) where
   pub block-written : d ≡ over (take 4 r ++ (baseFor k r (toZ w32 (ofZ w32 (getD zs 0 (pos 0))) ∷ []) ++ from 8 8 r)) xs
-      → ys ≡ filled (checkFit w vs) (packing w vs) (take (n - 16) (drop 16 d)) → putMid 16 (n - 16) d ys ≡ over (newBlock depth r (take m zs)) xs
-  unfolding newBlock
+      → ys ≡ filled (checkFit w vs) (packing w vs) (take (n - 16) (drop 16 d)) → putMid 16 (n - 16) d ys ≡ over (reencodedBlock depth r (take m zs)) xs
+  unfolding reencodedBlock
   block-written ed ey =
       let c = codingOf depth r in
       let kc : k ≡ c = is depth r (take m zs) fine b header fits k coded in

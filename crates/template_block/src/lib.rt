@@ -13,7 +13,7 @@ ghost use Prim.Native.Nat.{_<_, _≤_};
 ghost use lib.ListN.{length, take, drop};
 ghost use Rattle.format.specs.Lists.{from, over};
 ghost use Rattle.format.specs.Blocks.{codingOf, sizeOf};
-ghost use Rattle.format.specs.Reencoding.{valuesFor, baseFor, newBlock, checkNewBlock};
+ghost use Rattle.format.specs.Reencoding.{valuesFor, baseFor, reencodedBlock, checkReencodeBlock};
 ghost use Rattle.format.specs.declared.packed.Coding.the-variants.{Differences};
 ghost use Rattle.format.specs.declared.refusals.Checked.the-variants.{Fine};
 ghost use Rattle.block.specs.Read.{Whole};
@@ -70,7 +70,7 @@ fn new_values(r: &[u8], depth: u16, xs: [i32; 512], n: usize) -> [i32; 512]
 // The template's block that r begins with, for the first n of xs.
 pub fn check_new_block(r: &[u8], depth: u16, xs: [i32; 512], n: usize) -> Checked
     requires { ⌜ (1 ≤ depth) × (depth ≤ 32) × (0 < n) × (n ≤ 512) ⌝ }
-    ensures { λ k. ⌜ k ≡ checkNewBlock depth (now (r .entry)) (take n xs) ⌝ }
+    ensures { λ k. ⌜ k ≡ checkReencodeBlock depth (now (r .entry)) (take n xs) ⌝ }
 {
     if r.len() < Depth::BLOCK_HEADER_SIZE {
         return Checked::No(Refusal::TooShort);
@@ -114,8 +114,8 @@ fn put_header(out: &mut [u8], r: &[u8], coding: Coding, first: i32)
 
 // The new block at the front of what is lent, and its length.
 pub fn write_new_block(out: &mut [u8], r: &[u8], depth: u16, xs: [i32; 512], n: usize) -> usize
-    requires { ⌜ (1 ≤ depth) × (depth ≤ 32) × (0 < n) × (n ≤ 512) × (checkNewBlock depth (now r) (take n xs) ≡ Fine) × (sizeOf depth (now r) ≤ length (now out)) ⌝ }
-    ensures { λ k. ⌜ (k ≡ sizeOf depth (now (r .entry))) × (now (out .exit) ≡ over (newBlock depth (now (r .entry)) (take n xs)) (now (out .entry))) ⌝ }
+    requires { ⌜ (1 ≤ depth) × (depth ≤ 32) × (0 < n) × (n ≤ 512) × (checkReencodeBlock depth (now r) (take n xs) ≡ Fine) × (sizeOf depth (now r) ≤ length (now out)) ⌝ }
+    ensures { λ k. ⌜ (k ≡ sizeOf depth (now (r .entry))) × (now (out .exit) ≡ over (reencodedBlock depth (now (r .entry)) (take n xs)) (now (out .entry))) ⌝ }
 {
     let b = BlockHeader::read(r);
     let coding = block::coding(depth, b.bits);

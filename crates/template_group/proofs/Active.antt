@@ -8,7 +8,7 @@ use lib.ListN.{length, getD, take}
 use lib.Seq.{take-at}
 use lib.IntN.{ℤ}
 use Rattle.format.specs.Lists.{tab, pairwise, every}
-use Rattle.format.specs.Encoding.{channel, plain, padded, split, mid, side, midSide, equalParity, parity}
+use Rattle.format.specs.Encoding.{channel, unwoven, padded, paddedChannels, mid, side, midSide, equalParity, parity}
 use Rattle.lent.specs.Lent.{framesFrom}
 use Rattle.lent.proofs.Taken.{frames-length}
 use Rattle.laws.proofs.Channels.{channel-length, plain-is}
@@ -17,12 +17,12 @@ use Rattle.laws.proofs.Stereo.{parity-split}
 use Rattle.template_group.proofs.Apart.{Apart}
 
 -- padding keeps the parity of two channels
-pub parity-apart : (channels first n : ℕ) (s : List ℤ) (a : List (List ℤ)) → channels ≡ 2 → Apart channels first n s a → parity a ≡ parity (plain channels (framesFrom channels first n s))
-unfolding parity split tab
+pub parity-apart : (channels first n : ℕ) (s : List ℤ) (a : List (List ℤ)) → channels ≡ 2 → Apart channels first n s a → parity a ≡ parity (unwoven channels (framesFrom channels first n s))
+unfolding parity paddedChannels tab
 parity-apart channels first n s a two are =
-    subst (λ (k : ℕ). Apart k first n s a → parity a ≡ parity (plain k (framesFrom k first n s))) (sym two) by are
+    subst (λ (k : ℕ). Apart k first n s a → parity a ≡ parity (unwoven k (framesFrom k first n s))) (sym two) by are
   where
-    by : Apart 2 first n s a → parity a ≡ parity (plain 2 (framesFrom 2 first n s))
+    by : Apart 2 first n s a → parity a ≡ parity (unwoven 2 (framesFrom 2 first n s))
     by p = ap₂ (λ (l r : List ℤ). every (λ (b : Bool). b) (pairwise equalParity l r)) (p 0 (omega arith)) (p 1 (omega arith)) ∙ parity-split (framesFrom 2 first n s)
 
 take-padded : (n : ℕ) (xs : List ℤ) → length xs ≡ n → take n (padded xs) ≡ xs
@@ -32,7 +32,7 @@ take-padded n xs l = take-at xs _ n l
 -- a are the padded channels of the n frames from `first` on
 module _ (channels first n : ℕ) (s : List ℤ) (a : List (List ℤ)) (some : 1 ≤ channels) (room : (first + n) * channels ≤ length s)
     (are : Apart channels first n s a) where
-  pub active-plain : (c : ℕ) → c < channels → take n (getD a c []) ≡ getD (plain channels (framesFrom channels first n s)) c []
+  pub active-plain : (c : ℕ) → c < channels → take n (getD a c []) ≡ getD (unwoven channels (framesFrom channels first n s)) c []
   active-plain c h =
       let fs = framesFrom channels first n s in
       let l = frames-length channels first n s room in
@@ -40,10 +40,10 @@ module _ (channels first n : ℕ) (s : List ℤ) (a : List (List ℤ)) (some : 1
 
   module _ (two : channels ≡ 2) where
     pairs : (f : ℤ → ℤ → ℤ) → take n (pairwise f (getD a 0 []) (getD a 1 []))
-        ≡ pairwise f (getD (plain channels (framesFrom channels first n s)) 0 []) (getD (plain channels (framesFrom channels first n s)) 1 [])
+        ≡ pairwise f (getD (unwoven channels (framesFrom channels first n s)) 0 []) (getD (unwoven channels (framesFrom channels first n s)) 1 [])
     pairs f = take-pairwise f n (getD a 0 []) (getD a 1 []) ∙ ap₂ (pairwise f) (active-plain 0 (omega arith)) (active-plain 1 (omega arith))
 
-    pub active-both : (c : ℕ) → c < channels → take n (getD (midSide a) c []) ≡ getD (midSide (plain channels (framesFrom channels first n s))) c []
+    pub active-both : (c : ℕ) → c < channels → take n (getD (midSide a) c []) ≡ getD (midSide (unwoven channels (framesFrom channels first n s))) c []
     unfolding midSide
     active-both zero h = pairs mid
     active-both (suc zero) h = pairs side

@@ -6,7 +6,7 @@ use native.Mathlib.Omega.{arith}
 use native.Mathlib.Nat.{mul-le-mul-left}
 use lib.ListN.{getD}
 use lib.IntN.{ℤ}
-use Rattle.format.specs.Encoding.{channel, padded, split}
+use Rattle.format.specs.Encoding.{channel, padded, paddedChannels}
 use Rattle.lent.specs.Lent.{framesFrom}
 use Rattle.laws.proofs.Parts.{getD-tab}
 
@@ -19,8 +19,8 @@ abbrev pub Apart : ℕ → ℕ → ℕ → List ℤ → List (List ℤ) → Type
 Apart channels first n s a = (c : ℕ) → c < channels → getD a c [] ≡ padded (channel channels (framesFrom channels first n s) c)
 
 module _ (channels first n : ℕ) (s : List ℤ) where
-  pub apart-two : (a : List (List ℤ)) → channels ≡ 2 → a ≡ split 2 (framesFrom 2 first n s) → Apart channels first n s a
-  unfolding split
+  pub apart-two : (a : List (List ℤ)) → channels ≡ 2 → a ≡ paddedChannels 2 (framesFrom 2 first n s) → Apart channels first n s a
+  unfolding paddedChannels
   apart-two a two e =
       subst (λ (k : ℕ). Apart k first n s a) (sym two)
       (λ c h. ap (λ (x : List (List ℤ)). getD x c []) e ∙ getD-tab 2 (λ c. padded (channel 2 (framesFrom 2 first n s) c)) c [] h)

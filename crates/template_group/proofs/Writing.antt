@@ -10,10 +10,10 @@ use lib.ListN.{length, getD, take, drop, length-drop}
 use mir.Syntax.{w64}
 use mir.Val.{Fits}
 use Rattle.format.specs.Lists.{joined, over}
-use Rattle.format.specs.Blocks.{midBit, sizeOf, rest}
+use Rattle.format.specs.Blocks.{midBit, sizeOf, fromBlock}
 use Rattle.format.specs.Refusals.{inOrder}
 use Rattle.format.specs.Encoding.{midSide, parity}
-use Rattle.format.specs.Reencoding.{newBlock, checkNewBlock, activeIn, checkNewGroup, newGroup}
+use Rattle.format.specs.Reencoding.{reencodedBlock, checkReencodeBlock, activeIn, checkReencodeGroup, reencodedGroup}
 use Rattle.format.specs.declared.refusals.Checked.{Checked}
 use Rattle.format.specs.declared.refusals.Checked.the-variants.{Fine}
 use Rattle.lent.specs.Lent.{framesFrom}
@@ -29,10 +29,10 @@ use Rattle.template_group.proofs.Checking.{firstOf, first-each}
 -- the first n samples of the channels a, with the template's group bs
 module _ (depth n : ℕ) (bs : List ℕ) (a : List (List ℤ)) where
   abbrev check : ℕ → Checked
-  check c = firstOf depth n a c (rest depth bs c)
+  check c = firstOf depth n a c (fromBlock depth bs c)
 
   abbrev B : ℕ → List ℕ
-  B c = newBlock depth (rest depth bs c) (take n (getD a c []))
+  B c = reencodedBlock depth (fromBlock depth bs c) (take n (getD a c []))
 
   -- the new blocks of the channels before c
   abbrev pub newBefore : ℕ → List ℕ
@@ -41,14 +41,14 @@ module _ (depth n : ℕ) (bs : List ℕ) (a : List (List ℤ)) where
   -- channel c's block begins at `at`, and the new ones before it are as long
   module _ (c at : ℕ) (begins : Begins depth bs c at) (so-far : at ≡ length (newBefore c)) where
     module _ (C : ℕ) (fine : inOrder check C ≡ Fine) (below : c < C) where
-      here : Template depth (rest depth bs c) (take n (getD a c []))
-      here = template-ok depth (rest depth bs c) (take n (getD a c [])) (order-fine check c C below fine)
+      here : Template depth (fromBlock depth bs c) (take n (getD a c []))
+      here = template-ok depth (fromBlock depth bs c) (take n (getD a c [])) (order-fine check c C below fine)
 
-      lent : part at bs ≡ rest depth bs c
+      lent : part at bs ≡ fromBlock depth bs c
       lent = part-is at bs ∙ sym (begins .left)
 
       size : sizeOf depth (part at bs) ≡ length (B c)
-      size = ap (sizeOf depth) lent ∙ sym (new-length depth (rest depth bs c) (take n (getD a c [])) (here .head))
+      size = ap (sizeOf depth) lent ∙ sym (new-length depth (fromBlock depth bs c) (take n (getD a c [])) (here .head))
 
       fits : sizeOf depth (part at bs) ≤ length (part at bs)
       fits = subst (λ (r : List ℕ). sizeOf depth r ≤ length r) (sym lent) (here .sized)
@@ -56,8 +56,8 @@ module _ (depth n : ℕ) (bs : List ℕ) (a : List (List ℤ)) where
       ends : at + sizeOf depth (part at bs) ≤ length bs
       ends = begins-more depth bs c at _ begins fits refl .inside
 
-      pub next-fine : checkNewBlock depth (part at bs) (take n (getD a c [])) ≡ Fine
-      next-fine = ap (λ (r : List ℕ). checkNewBlock depth r (take n (getD a c []))) lent ∙ order-fine check c C below fine
+      pub next-fine : checkReencodeBlock depth (part at bs) (take n (getD a c [])) ≡ Fine
+      next-fine = ap (λ (r : List ℕ). checkReencodeBlock depth r (take n (getD a c []))) lent ∙ order-fine check c C below fine
 
       module _ (k : ℕ) (is : k ≡ sizeOf depth (part at bs)) where
         pub next-begins : Begins depth bs (c + 1) (at + k)
@@ -77,7 +77,7 @@ module _ (depth n : ℕ) (bs : List ℕ) (a : List (List ℤ)) where
         pub next-ends : (k : ℕ) → k ≡ sizeOf depth (part at bs) → length xs < 2 ^ 64 → Fits w64 (at + k)
         next-ends k e h = record { fits = omega (arith, ends) }
 
-        pub next-written : (ys : List ℕ) → d ≡ over (newBefore c) xs → ys ≡ over (newBlock depth (part at bs) (take n (getD a c []))) (part at d)
+        pub next-written : (ys : List ℕ) → d ≡ over (newBefore c) xs → ys ≡ over (reencodedBlock depth (part at bs) (take n (getD a c []))) (part at d)
             → take at d ++ (ys ++ drop (length d - at) (drop at d)) ≡ over (newBefore (c + 1)) xs
         unfolding joined
         next-written ys e f = rw add-one (lend-turn at (newBefore c) (B c) xs d ys so-far e (rw lent at f))
@@ -88,22 +88,22 @@ module _ (depth n : ℕ) (bs : List ℕ) (a : List (List ℤ)) where
 pub record Actives (channels n : ℕ) (bs : List ℕ) (s : List ℤ) (a : List (List ℤ)) : Type 0 where
   pub are : (c : ℕ) → c < channels → take n (getD a c []) ≡ getD (activeIn channels bs s) c []
 
-module _ (depth channels : ℕ) (bs : List ℕ) (s : List ℤ) (fine : checkNewGroup depth channels bs s ≡ Fine) where
+module _ (depth channels : ℕ) (bs : List ℕ) (s : List ℤ) (fine : checkReencodeGroup depth channels bs s ≡ Fine) where
   module _ (n : ℕ) (a : List (List ℤ)) (same : Actives channels n bs s a) where
     pub order-ok : inOrder (check depth n bs a) channels ≡ Fine
-    unfolding checkNewGroup
+    unfolding checkReencodeGroup
     order-ok =
         first-fine _ _ (first-each depth channels n bs a (activeIn channels bs s) (same .are) ∙ others-fine _ _ (others-fine _ _ (others-fine _ _ fine)))
 
-    pub group-written : (xs d : List ℕ) → d ≡ over (newBefore depth n bs a channels) xs → d ≡ over (newGroup depth channels bs s) xs
-    unfolding newGroup
+    pub group-written : (xs d : List ℕ) → d ≡ over (newBefore depth n bs a channels) xs → d ≡ over (reencodedGroup depth channels bs s) xs
+    unfolding reencodedGroup
     group-written xs d e =
         e ∙ ap (λ (w : List ℕ). over w xs)
-        (joined-cong (B depth n bs a) (λ c. newBlock depth (rest depth bs c) (getD (activeIn channels bs s) c [])) channels
-        (λ c h. ap (newBlock depth (rest depth bs c)) (same .are c h)))
+        (joined-cong (B depth n bs a) (λ c. reencodedBlock depth (fromBlock depth bs c) (getD (activeIn channels bs s) c [])) channels
+        (λ c h. ap (reencodedBlock depth (fromBlock depth bs c)) (same .are c h)))
 
 -- a are the padded channels, t says whether they are taken as mid and side
-module _ (depth channels first n : ℕ) (bs : List ℕ) (s : List ℤ) (fine : checkNewGroup depth channels bs (framesFrom channels first n s) ≡ Fine)
+module _ (depth channels first n : ℕ) (bs : List ℕ) (s : List ℤ) (fine : checkReencodeGroup depth channels bs (framesFrom channels first n s) ≡ Fine)
     (a : List (List ℤ)) (some : 1 ≤ channels) (room : (first + n) * channels ≤ length s)
     (are : Apart channels first n s a) (t : Bool) (mid : t ≡ midBit bs) where
   abbrev frames : List ℤ

@@ -12,10 +12,10 @@ ghost use Prim.Native.Nat.{ℕ, _+_, _*_, _<_, _≤_};
 ghost use lib.Dec.{eqb};
 ghost use lib.ListN.{length, getD, take};
 ghost use Rattle.format.specs.Lists.{over, joined};
-ghost use Rattle.format.specs.Blocks.{midBit, rest};
+ghost use Rattle.format.specs.Blocks.{midBit, fromBlock};
 ghost use Rattle.format.specs.Refusals.{refuse, _then_, inOrder};
 ghost use Rattle.format.specs.Encoding.{channel, padded};
-ghost use Rattle.format.specs.Reencoding.{newBlock, checkNewBlock, checkNewGroup, newGroup};
+ghost use Rattle.format.specs.Reencoding.{reencodedBlock, checkReencodeBlock, checkReencodeGroup, reencodedGroup};
 ghost use Rattle.format.specs.declared.refusals.Refusal.the-variants.{TemplateBytesLeft};
 ghost use Rattle.format.specs.declared.refusals.Checked.the-variants.{Fine};
 ghost use Rattle.lent.specs.Lent.{lentOf, framesFrom};
@@ -50,7 +50,7 @@ fn channels_of(
 // Each channel in order; after the channels 46.
 fn check_channels(bs: &[u8], depth: u16, channels: u16, a: [[i32; 512]; 2], n: usize) -> Checked
     requires { ⌜ (1 ≤ depth) × (depth ≤ 32) × (channels ≤ 2) × (0 < n) × (n ≤ 512) ⌝ }
-    ensures { λ r. ⌜ r ≡ (inOrder (λ c. checkNewBlock depth (rest depth (now (bs .entry)) c) (take n (getD a c []))) channels then refuse (not (eqb (length (rest depth (now (bs .entry)) channels)) 0)) TemplateBytesLeft) ⌝ }
+    ensures { λ r. ⌜ r ≡ (inOrder (λ c. checkReencodeBlock depth (fromBlock depth (now (bs .entry)) c) (take n (getD a c []))) channels then refuse (not (eqb (length (fromBlock depth (now (bs .entry)) channels)) 0)) TemplateBytesLeft) ⌝ }
 {
     let count = channels as usize;
     let mut at: usize = 0;
@@ -80,7 +80,7 @@ pub fn check_new_group(
     bs: &[u8],
 ) -> Checked
     requires { ⌜ (0 < n) × (n ≤ 512) × (1 ≤ channels) × (channels ≤ 2) × (1 ≤ depth) × (depth ≤ 32) × ((first + n) * channels ≤ length (lentOf which (now words) (now bytes))) ⌝ }
-    ensures { λ r. ⌜ r ≡ checkNewGroup depth channels (now (bs .entry)) (framesFrom channels first n (lentOf which (now (words .entry)) (now (bytes .entry)))) ⌝ }
+    ensures { λ r. ⌜ r ≡ checkReencodeGroup depth channels (now (bs .entry)) (framesFrom channels first n (lentOf which (now (words .entry)) (now (bytes .entry)))) ⌝ }
 {
     if bs.len() < 12 {
         return Checked::No(Refusal::ShortGroup);
@@ -107,8 +107,8 @@ fn write_channels(
     a: [[i32; 512]; 2],
     n: usize,
 )
-    requires { ⌜ (1 ≤ depth) × (depth ≤ 32) × (channels ≤ 2) × (0 < n) × (n ≤ 512) × (inOrder (λ c. checkNewBlock depth (rest depth (now bs) c) (take n (getD a c []))) channels ≡ Fine) × (length (now bs) ≤ length (now out)) ⌝ }
-    ensures { λ _. ⌜ now (out .exit) ≡ over (joined (λ c. newBlock depth (rest depth (now (bs .entry)) c) (take n (getD a c []))) channels) (now (out .entry)) ⌝ }
+    requires { ⌜ (1 ≤ depth) × (depth ≤ 32) × (channels ≤ 2) × (0 < n) × (n ≤ 512) × (inOrder (λ c. checkReencodeBlock depth (fromBlock depth (now bs) c) (take n (getD a c []))) channels ≡ Fine) × (length (now bs) ≤ length (now out)) ⌝ }
+    ensures { λ _. ⌜ now (out .exit) ≡ over (joined (λ c. reencodedBlock depth (fromBlock depth (now (bs .entry)) c) (take n (getD a c []))) channels) (now (out .entry)) ⌝ }
 {
     let count = channels as usize;
     let mut at: usize = 0;
@@ -132,8 +132,8 @@ pub fn write_new_group(
     bs: &[u8],
 )
     requires { ⌜ (0 < n) × (n ≤ 512) × (1 ≤ channels) × (channels ≤ 2) × (1 ≤ depth) × (depth ≤ 32) × ((first + n) * channels ≤ length (lentOf which (now words) (now bytes))) ⌝ }
-    requires { ⌜ (checkNewGroup depth channels (now bs) (framesFrom channels first n (lentOf which (now words) (now bytes))) ≡ Fine) × (length (now bs) ≤ length (now out)) ⌝ }
-    ensures { λ _. ⌜ now (out .exit) ≡ over (newGroup depth channels (now (bs .entry)) (framesFrom channels first n (lentOf which (now (words .entry)) (now (bytes .entry))))) (now (out .entry)) ⌝ }
+    requires { ⌜ (checkReencodeGroup depth channels (now bs) (framesFrom channels first n (lentOf which (now words) (now bytes))) ≡ Fine) × (length (now bs) ≤ length (now out)) ⌝ }
+    ensures { λ _. ⌜ now (out .exit) ≡ over (reencodedGroup depth channels (now (bs .entry)) (framesFrom channels first n (lentOf which (now (words .entry)) (now (bytes .entry))))) (now (out .entry)) ⌝ }
 {
     let a = channels_of(which, words, bytes, first, n, channels);
     if mid_bit(bs) {

@@ -11,13 +11,14 @@ use lib.Dec.{ltb}
 use borrow.Author.Tests.{lt-ltb, le-ltb, ltb-true, ltb-false}
 use Rattle.format.specs.Lists.{over}
 use Rattle.format.specs.Numbers.{Below}
-use Rattle.format.specs.Header.{fieldsOf, groupsOf, entry, group}
+use Rattle.format.specs.Header.{fieldsOf, groupsOf, entry, groupBytes}
 use Rattle.format.specs.Refusals.{refuse, _then_}
 use Rattle.format.specs.Answers.{answered}
 use Rattle.format.specs.Opening.{formatOf, checkOpen}
-use Rattle.format.specs.Decoding.{checkGroup, channelsOf, woven, active, groupSamples}
-use Rattle.format.specs.Units.{samplesIn}
+use Rattle.format.specs.Decoding.{checkGroup, channelsOf, woven, groupSamples}
+use Rattle.format.specs.Units.{samplesIn, active}
 use Rattle.format.specs.Walking.{checkStep, stepSamples, stepCount, isLeft, checkStepInto, checkWalk, stepOf, groupsPassed, nextOf, stepInto}
+use Rattle.format.specs.declared.units.Frames.{Frames}
 use Rattle.format.specs.declared.refusals.Refusal.{Refusal}
 use Rattle.format.specs.declared.refusals.Refusal.the-variants.{OutputTooShort}
 use Rattle.format.specs.declared.refusals.Checked.{Checked}
@@ -49,7 +50,7 @@ module _ (s : List ℕ) (g : ℕ) (h : Fields) (reads : h ≡ fieldsOf s) where
     unfolding isLeft
     one-left l = lt-ltb g (groupsOf (fieldsOf s .frames)) (omega (arith, last))
 
-  in-step : (n : ℕ) (m : Samples) → n ≡ active (h .frames) g → m ≡ samplesIn (record { 0 = n }) (h .channels) → m ≡ stepCount s g
+  in-step : (n : Frames) (m : Samples) → n .0 ≡ active (h .frames) g → m ≡ samplesIn n (h .channels) → m ≡ stepCount s g
   in-step n m count counts = counts ∙ rw (count, reads) refl
 
 -- ---- a step's checks
@@ -81,7 +82,7 @@ module _ (s : List ℕ) (g room : ℕ) (a : Checked) (says : a ≡ checkOpen s) 
       unfolding checkStepInto _then_
       walk-refused r t = sym (into (No r) (rw (checks, t)))
 
-      module _ (good : k ≡ Fine) (n : ℕ) (m : Samples) (count : n ≡ active (h .frames) g) (counts : m ≡ samplesIn (record { 0 = n }) (h .channels)) where
+      module _ (good : k ≡ Fine) (n : Frames) (m : Samples) (count : n .0 ≡ active (h .frames) g) (counts : m ≡ samplesIn n (h .channels)) where
         fits : (b : Bool) → ltb room (m .0) ≡ b → checkStepInto s g room ≡ refuse b OutputTooShort
         unfolding checkStepInto _then_
         fits b t = rw (checks, good) (ap (λ (x : Bool). refuse x OutputTooShort) (ap (λ (x : Samples). ltb room (x .0)) (sym (in-step s g h reads n m count counts)) ∙ t))
@@ -133,7 +134,7 @@ module _ (s : List ℕ) (g c : ℕ) (k : Checked) (says : k ≡ checkWalk s g c)
             ap (λ (b : Bool). cond b (checkStepInto s g c) Fine) (sym (one-left s g h reads groups all below)) ∙ e
 
         module _ (p e : ℕ) (starts : p ≡ h .start + entry s h g) (ends : e ≡ h .start + entry s h (g + 1)) where
-          is-group : take (e - p) (drop p s) ≡ group s h g
+          is-group : take (e - p) (drop p s) ≡ groupBytes s h g
           is-group = part-is s h step-opens reads groups g p e all below starts ends
 
           pub step-rises : p ≤ e
@@ -151,27 +152,27 @@ module _ (s : List ℕ) (g c : ℕ) (k : Checked) (says : k ≡ checkWalk s g c)
             fine = ap (checkGroup h f) is-group ∙ rw (format, reads) (first-fine _ _ checks-fine);
           }
 
-        module _ (n : ℕ) (count : n ≡ active (h .frames) g) where
-          pub step-room : (room : ℕ) → c ≡ room → (0 + n) * h .channels ≤ room
+        module _ (n : Frames) (count : n .0 ≡ active (h .frames) g) where
+          pub step-room : (room : ℕ) → c ≡ room → (0 + n .0) * h .channels ≤ room
           unfolding checkStepInto
           step-room room lent =
               let e = ltb-false c (stepCount s g .0) (passed _ _ (others-fine (checkStep s g) _ checks-fine)) in
-              omega (arith, ap (λ (x : Samples). x .0) (in-step s g h reads n (samplesIn (record { 0 = n }) (h .channels)) count refl), zero-add n)
+              omega (arith, ap (λ (x : Samples). x .0) (in-step s g h reads n (samplesIn n (h .channels)) count refl), zero-add (n .0))
 
-          pub step-reads : (room : ℕ) → c ≡ room → (m : Samples) → m ≡ samplesIn (record { 0 = n }) (h .channels) → record { outcome = Read m } ≡ stepOf s g room
+          pub step-reads : (room : ℕ) → c ≡ room → (m : Samples) → m ≡ samplesIn n (h .channels) → record { outcome = Read m } ≡ stepOf s g room
           unfolding stepOf
           step-reads room lent m counts = rw (← lent, ← says, fine, one-left s g h reads groups all below) (ap (λ (x : Samples). record { outcome = Read x }) (in-step s g h reads n m count counts))
 
           pub puts-group :
               (p e : ℕ) → p ≡ h .start + entry s h g → e ≡ h .start + entry s h (g + 1) → (f : SampleFormat) → f ≡ formatOf s h → (out after : List ℤ) → c ≡ length out
-              → after ≡ placed (0 * h .channels) (wovenFrom 0 n (channelsOf h f (take (e - p) (drop p s)))) out → after ≡ stepInto s g out
+              → after ≡ placed (0 * h .channels) (wovenFrom 0 (n .0) (channelsOf h f (take (e - p) (drop p s)))) out → after ≡ stepInto s g out
           unfolding stepInto stepSamples groupSamples
           puts-group p e starts ends f format out after lent put = rw (← lent, ← says, fine, one-left s g h reads groups all below)
               (put ∙ ap (λ (i : ℕ). placed i xs out) (zero-mul (h .channels)) ∙ placed-front xs out
-              ∙ ap (λ (ys : List ℤ). over ys out) (sym (woven-from n (channelsOf h f (take (e - p) (drop p s)))) ∙ ap (λ (b : List ℕ). woven n (channelsOf h f b)) (is-group p e starts ends) ∙ rw (count, format, reads) refl))
+              ∙ ap (λ (ys : List ℤ). over ys out) (sym (woven-from (n .0) (channelsOf h f (take (e - p) (drop p s)))) ∙ ap (λ (b : List ℕ). woven (n .0) (channelsOf h f b)) (is-group p e starts ends) ∙ rw (count, format, reads) refl))
             where
               xs : List ℤ
-              xs = wovenFrom 0 n (channelsOf h f (take (e - p) (drop p s)))
+              xs = wovenFrom 0 (n .0) (channelsOf h f (take (e - p) (drop p s)))
 
 -- ---- where it leaves the walk, by a step's answer and how many groups it goes past
 module _ (s : List ℕ) (g room n : ℕ) (a : Answer) (answers : a ≡ stepOf s g room) (goes : n ≡ groupsPassed (a .outcome)) where

@@ -1,19 +1,20 @@
 // Every refusal of a step, found from the header, the table and the group's block headers.
 use format::Checked;
-use format::Frames;
 use format::Refusal;
+use format::Samples;
 ghost use mathlib.Core.Path.{_≡_};
 ghost use Rattle.format.specs.Walking.{checkWalk};
 
 // At group g, into so much room.
-pub fn check_walk(file: &[u8], g: u32, room: usize) -> Checked
-    ensures { λ r. ⌜ r ≡ checkWalk (now (file .entry)) g room ⌝ }
+pub fn check_walk(file: &[u8], g: u32, room: Samples) -> Checked
+    ensures { λ r. ⌜ r ≡ checkWalk (now (file .entry)) g (room .0) ⌝ }
 {
     if let Checked::No(r) = opening::check_open(file) {
         return Checked::No(r);
     }
     let h = header::read_fields(file);
-    if header::groups_of(h.frames) <= g {
+    let frames = h.frames;
+    if frames.groups() <= g {
         return Checked::Fine;
     }
     let format = opening::format_of(file, h);
@@ -22,8 +23,8 @@ pub fn check_walk(file: &[u8], g: u32, room: usize) -> Checked
     if let Checked::No(r) = group::check_group(h, format, &file[a..e]) {
         return Checked::No(r);
     }
-    let frames = Frames(group::active(h.frames, g) as u32);
-    if (room as u64) < frames.samples(h.channels).0 {
+    let active = frames.active(g);
+    if room.0 < active.samples(h.channels).0 {
         return Checked::No(Refusal::OutputTooShort);
     }
     Checked::Fine

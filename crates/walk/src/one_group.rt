@@ -2,11 +2,9 @@
 use crate::checking::check_walk;
 use format::Answer;
 use format::Checked;
-use format::Frames;
 use format::Outcome;
 use lent::Container;
 ghost use mathlib.Core.Path.{_≡_};
-ghost use lib.ListN.{length};
 ghost use Rattle.format.specs.Promises.{Steps};
 ghost use Rattle.lent.specs.Lent.{lentOf, restOf};
 
@@ -25,16 +23,17 @@ pub fn decode_group_lent(
         return Answer::refused(r);
     }
     let h = header::read_fields(file);
-    if header::groups_of(h.frames) <= g {
+    let frames = h.frames;
+    if frames.groups() <= g {
         return Answer::of(Outcome::Finished);
     }
     let format = opening::format_of(file, h);
     let a = opening::offset_of(file, h, g);
     let e = opening::offset_of(file, h, g + 1);
-    let n = group::active(h.frames, g);
+    let active = frames.active(g);
+    let n = active.0 as usize;
     group::write_group(which, words, bytes, &file[a..e], h, format, 0, 0, n);
-    let frames = Frames(n as u32);
-    Answer::of(Outcome::Read(frames.samples(h.channels)))
+    Answer::of(Outcome::Read(active.samples(h.channels)))
 }
 
 pub fn decode_group(file: &[u8], g: u32, out: &mut [i32]) -> Answer

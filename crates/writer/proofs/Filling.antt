@@ -10,7 +10,8 @@ use lib.Seq.{sets, length-sets}
 use Rattle.format.specs.Lists.{joined, over}
 use Rattle.format.specs.Numbers.{le}
 use Rattle.format.specs.Header.{groupsOf}
-use Rattle.format.specs.Encoding.{groupOf, groupAt, tableOf}
+use Rattle.format.specs.Encoding.{encodedGroup, encodedGroupAt, tableOf}
+use Rattle.format.specs.declared.units.Frames.{Frames}
 use Rattle.format.specs.declared.settings.PcmSpec.{PcmSpec}
 use Rattle.format.specs.declared.settings.StereoMode.{StereoMode}
 use Rattle.laws.proofs.Over.{sets-join, sets-swap, lent-sets}
@@ -61,22 +62,22 @@ module _ (P : ℕ → List ℕ) (s : List ℕ) where
       ∙ sets-join (entries P (n + 1)) (joined P n) s 120
 
 -- ---- one turn of the loop that writes table and groups
-module _ {p : PcmSpec} {mode : StereoMode} {s : List ℤ} {frames groups g n at start : ℕ} (here : Here p mode s frames groups g n) (so-far : at ≡ length (joined (groupAt p mode s) g)) (starts : start ≡ 120 + 4 * (groupsOf frames + 1))
-    (out : List ℕ) (room : 120 + 4 * (groupsOf frames + 1) + length (joined (groupAt p mode s) (groupsOf frames)) ≤ length out) where
-  pub group-room : (d : List ℕ) → length d ≡ length out → length (groupOf p mode (framesFrom (p .channels) (512 * g) n s)) ≤ length (take (length d - (start + at)) (drop (start + at) d))
+module _ {p : PcmSpec} {mode : StereoMode} {s : List ℤ} {frames : Frames} {groups g n at start : ℕ} (here : Here p mode s frames groups g n) (so-far : at ≡ length (joined (encodedGroupAt p mode s) g)) (starts : start ≡ 120 + 4 * (groupsOf frames + 1))
+    (out : List ℕ) (room : 120 + 4 * (groupsOf frames + 1) + length (joined (encodedGroupAt p mode s) (groupsOf frames)) ≤ length out) where
+  pub group-room : (d : List ℕ) → length d ≡ length out → length (encodedGroup p mode (framesFrom (p .channels) (512 * g) n s)) ≤ length (take (length d - (start + at)) (drop (start + at) d))
   group-room d long = rw (group-bytes here) (omega (arith, group-fits here so-far, length-take (length d - (start + at)) (drop (start + at) d), length-drop (start + at) d))
 
-  pub turn-laid : (t d ys : List ℕ) → t ≡ laid (groupAt p mode s) out start g g → d ≡ sets t (120 + 4 * g) (le 4 at)
-      → ys ≡ over (groupOf p mode (framesFrom (p .channels) (512 * g) n s)) (take (length d - (start + at)) (drop (start + at) d))
-      → take (start + at) d ++ (ys ++ drop (length d - (start + at)) (drop (start + at) d)) ≡ laid (groupAt p mode s) out start (g + 1) (g + 1)
+  pub turn-laid : (t d ys : List ℕ) → t ≡ laid (encodedGroupAt p mode s) out start g g → d ≡ sets t (120 + 4 * g) (le 4 at)
+      → ys ≡ over (encodedGroup p mode (framesFrom (p .channels) (512 * g) n s)) (take (length d - (start + at)) (drop (start + at) d))
+      → take (start + at) d ++ (ys ++ drop (length d - (start + at)) (drop (start + at) d)) ≡ laid (encodedGroupAt p mode s) out start (g + 1) (g + 1)
   turn-laid t d ys e entry put =
-      let P = groupAt p mode s in
+      let P = encodedGroupAt p mode s in
       let f = entry-laid P out start g at so-far t d e entry in
       let long : length d ≡ length out = ap length f ∙ length-sets (sets out start (joined P g)) 120 (entries P (g + 1)) ∙ length-sets out start (joined P g) in
       group-laid P out start g at so-far d ys f (omega arith) (omega (arith, group-fits here so-far)) (rw (group-bytes here) at put)
 
 -- and its end
-pub loop-laid : (P : ℕ → List ℕ) (out t t′ : List ℕ) (start frames groups g at : ℕ) → t ≡ laid P out start g g → at ≡ length (joined P g) → groups ≡ groupsOf frames → g ≤ groups → groups ≤ g
+pub loop-laid : (P : ℕ → List ℕ) (out t t′ : List ℕ) (start : ℕ) (frames : Frames) (groups g at : ℕ) → t ≡ laid P out start g g → at ≡ length (joined P g) → groups ≡ groupsOf frames → g ≤ groups → groups ≤ g
     → start ≡ 120 + 4 * (groupsOf frames + 1) → t′ ≡ sets t (120 + 4 * groups) (le 4 at) → t′ ≡ sets out 120 (tableOf P (groupsOf frames) ++ joined P (groupsOf frames))
 loop-laid P out t t′ start frames groups g at e so-far all most least starts put =
     let k : groups ≡ g = omega arith in

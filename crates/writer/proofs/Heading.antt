@@ -9,7 +9,8 @@ use lib.Seq.{sets}
 use Rattle.format.specs.Lists.{joined, over}
 use Rattle.format.specs.Numbers.{le, digits}
 use Rattle.format.specs.Header.{signature, groupsOf}
-use Rattle.format.specs.Encoding.{groupAt, header, tableOf, assembled, fileOf}
+use Rattle.format.specs.Encoding.{encodedGroupAt, headerBytes, tableOf, assembled, encodedFile}
+use Rattle.format.specs.declared.units.Frames.{Frames}
 use Rattle.format.specs.declared.settings.PcmSpec.{PcmSpec}
 use Rattle.format.specs.declared.settings.StereoMode.{StereoMode}
 use Rattle.laws.proofs.Over.{sets-join, over-sets}
@@ -35,44 +36,44 @@ pub settings-put : (p : PcmSpec) (s t₁ t₂ t₃ t₄ t₅ : List ℕ) → t�
 unfolding signature le digits
 settings-put p s t₁ t₂ t₃ t₄ t₅ e₁ e₂ e₃ e₄ e₅ = rw (e₅, e₄, e₃, e₂, e₁)
 
-pub places-put : (frames start size : ℕ) (s t₁ t₂ t₃ t₄ : List ℕ) → t₁ ≡ sets s 16 (le 4 frames) → t₂ ≡ sets t₁ 20 (le 4 120) → t₃ ≡ sets t₂ 24 (le 4 start) → t₄ ≡ sets t₃ 28 (le 4 size)
-    → t₄ ≡ sets s 16 (le 4 frames ++ (le 4 120 ++ (le 4 start ++ le 4 size)))
+pub places-put : (frames : Frames) (start size : ℕ) (s t₁ t₂ t₃ t₄ : List ℕ) → t₁ ≡ sets s 16 (le 4 (frames .0)) → t₂ ≡ sets t₁ 20 (le 4 120) → t₃ ≡ sets t₂ 24 (le 4 start) → t₄ ≡ sets t₃ 28 (le 4 size)
+    → t₄ ≡ sets s 16 (le 4 (frames .0) ++ (le 4 120 ++ (le 4 start ++ le 4 size)))
 unfolding le digits
 places-put frames start size s t₁ t₂ t₃ t₄ e₁ e₂ e₃ e₄ = rw (e₄, e₃, e₂, e₁)
 
-module _ (p : PcmSpec) (frames start size : ℕ) (s t₁ t₂ t₃ : List ℕ)
+module _ (p : PcmSpec) (frames : Frames) (start size : ℕ) (s t₁ t₂ t₃ : List ℕ)
     (settings : t₁ ≡ sets s 0 (signature 0x31 ++ (le 2 (p .channels) ++ (le 2 (p .«bits_per_sample») ++ le 4 (p .«sample_rate»)))))
-    (places : t₂ ≡ sets t₁ 16 (le 4 frames ++ (le 4 120 ++ (le 4 start ++ le 4 size))))
+    (places : t₂ ≡ sets t₁ 16 (le 4 (frames .0) ++ (le 4 120 ++ (le 4 start ++ le 4 size))))
     (zeros : t₃ ≡ sets t₂ 32 (replicate 88 0)) where
-  put : t₃ ≡ sets s 0 (header p frames start size)
-  unfolding header signature le digits
+  put : t₃ ≡ sets s 0 (headerBytes p frames start size)
+  unfolding headerBytes signature le digits
   put = rw (zeros, places, settings)
 
-  pub header-put : 120 ≤ length s → t₃ ≡ over (header p frames start size) s
-  header-put room = put ∙ sym (over-sets (header p frames start size) s (omega (arith, header-length p frames start size)))
+  pub header-put : 120 ≤ length s → t₃ ≡ over (headerBytes p frames start size) s
+  header-put room = put ∙ sym (over-sets (headerBytes p frames start size) s (omega (arith, header-length p frames start size)))
 
 -- ---- the file
-module _ (p : PcmSpec) (mode : StereoMode) (s : List ℤ) (frames : ℕ) (whole : frames ≡ length s / p .channels) where
-  pub file-long : length (fileOf p mode s) ≡ 120 + 4 * (groupsOf frames + 1) + length (joined (groupAt p mode s) (groupsOf frames))
-  unfolding fileOf
-  file-long = rw (← whole) (assembled-length p frames (groupAt p mode s))
+module _ (p : PcmSpec) (mode : StereoMode) (s : List ℤ) (frames : Frames) (whole : frames .0 ≡ length s / p .channels) where
+  pub file-long : length (encodedFile p mode s) ≡ 120 + 4 * (groupsOf frames + 1) + length (joined (encodedGroupAt p mode s) (groupsOf frames))
+  unfolding encodedFile
+  file-long = rw (← whole) (assembled-length p frames (encodedGroupAt p mode s))
 
-  pub header-fits : (out : List ℕ) → length (fileOf p mode s) ≤ length out → 120 ≤ length out
+  pub header-fits : (out : List ℕ) → length (encodedFile p mode s) ≤ length out → 120 ≤ length out
   header-fits out room = omega (arith, file-long)
 
-  pub groups-fit : (out t : List ℕ) → length (fileOf p mode s) ≤ length out → length t ≡ length out → 120 + 4 * (groupsOf frames + 1) + length (joined (groupAt p mode s) (groupsOf frames)) ≤ length t
+  pub groups-fit : (out t : List ℕ) → length (encodedFile p mode s) ≤ length out → length t ≡ length out → 120 + 4 * (groupsOf frames + 1) + length (joined (encodedGroupAt p mode s) (groupsOf frames)) ≤ length t
   groups-fit out t room long = omega (arith, file-long)
 
-  module _ (start size : ℕ) (starts : start ≡ 120 + 4 * (groupsOf frames + 1)) (sized : size ≡ length (joined (groupAt p mode s) (groupsOf frames))) where
-    file-is : header p frames start size ++ (tableOf (groupAt p mode s) (groupsOf frames) ++ joined (groupAt p mode s) (groupsOf frames)) ≡ fileOf p mode s
-    unfolding fileOf assembled
+  module _ (start size : ℕ) (starts : start ≡ 120 + 4 * (groupsOf frames + 1)) (sized : size ≡ length (joined (encodedGroupAt p mode s) (groupsOf frames))) where
+    file-is : headerBytes p frames start size ++ (tableOf (encodedGroupAt p mode s) (groupsOf frames) ++ joined (encodedGroupAt p mode s) (groupsOf frames)) ≡ encodedFile p mode s
+    unfolding encodedFile assembled
     file-is = rw (starts, sized, ← whole)
 
-    pub file-put : (out t t′ : List ℕ) → length (fileOf p mode s) ≤ length out → t ≡ over (header p frames start size) out
-        → t′ ≡ sets t 120 (tableOf (groupAt p mode s) (groupsOf frames) ++ joined (groupAt p mode s) (groupsOf frames)) → t′ ≡ over (fileOf p mode s) out
+    pub file-put : (out t t′ : List ℕ) → length (encodedFile p mode s) ≤ length out → t ≡ over (headerBytes p frames start size) out
+        → t′ ≡ sets t 120 (tableOf (encodedGroupAt p mode s) (groupsOf frames) ++ joined (encodedGroupAt p mode s) (groupsOf frames)) → t′ ≡ over (encodedFile p mode s) out
     file-put out t t′ room e f =
-        let H = header p frames start size in
-        let B = tableOf (groupAt p mode s) (groupsOf frames) ++ joined (groupAt p mode s) (groupsOf frames) in
+        let H = headerBytes p frames start size in
+        let B = tableOf (encodedGroupAt p mode s) (groupsOf frames) ++ joined (encodedGroupAt p mode s) (groupsOf frames) in
         let n : 120 ≡ 0 + length H = omega (arith, header-length p frames start size) in
         let front : t ≡ sets out 0 H = e ∙ over-sets H out (omega (arith, header-length p frames start size, file-long)) in
-        f ∙ ap₂ (λ (l : List ℕ) (k : ℕ). sets l k B) front n ∙ sets-join H B out 0 ∙ ap (sets out 0) file-is ∙ sym (over-sets (fileOf p mode s) out room)
+        f ∙ ap₂ (λ (l : List ℕ) (k : ℕ). sets l k B) front n ∙ sets-join H B out 0 ∙ ap (sets out 0) file-is ∙ sym (over-sets (encodedFile p mode s) out room)

@@ -9,7 +9,7 @@ use borrow.Author.Tests.{ne-eqb}
 use Rattle.format.specs.Lists.{anyBelow}
 use Rattle.format.specs.Header.{groupsOf}
 use Rattle.format.specs.Refusals.{refuse, _then_}
-use Rattle.format.specs.Encoding.{plain, parity, groupIn, checkEncoder, checkSamples, isMidSide, checkStereo}
+use Rattle.format.specs.Encoding.{unwoven, parity, groupIn, checkEncoder, checkSamples, isMidSide, checkStereo}
 use Rattle.format.specs.declared.refusals.Refusal.the-variants.{NotStereo, ParityDiffers}
 use Rattle.format.specs.declared.refusals.Checked.{Checked}
 use Rattle.format.specs.declared.refusals.Checked.the-variants.{Fine, No}
@@ -48,10 +48,10 @@ module _ (p : PcmSpec) (mode : StereoMode) (s : List ℤ) where
         pub whole-two : length s ≡ p .channels * (length s / p .channels) → length s ≡ 2 * f .0
         whole-two h = exact-two h ∙ ap (λ (n : ℕ). 2 * n) (sym counts)
 
-        module _ (t : Bool) (finds : t ≡ anyBelow (λ g. not (parity (plain 2 (groupIn 2 s g)))) (groupsOf (f .0))) where
+        module _ (t : Bool) (finds : t ≡ anyBelow (λ g. not (parity (unwoven 2 (groupIn 2 s g)))) (groupsOf f)) where
           by-parity : refuse t ParityDiffers ≡ checkStereo p mode s
           unfolding checkStereo isMidSide _then_ refuse
-          by-parity = rw (e, two) (ap (λ (b : Bool). refuse b ParityDiffers) (finds ∙ ap (λ (n : ℕ). anyBelow (λ g. not (parity (plain 2 (groupIn 2 s g)))) (groupsOf n)) counts))
+          by-parity = rw (e, two) (ap (λ (b : Bool). refuse b ParityDiffers) (finds ∙ ap (λ (n : ℕ). anyBelow (λ g. not (parity (unwoven 2 (groupIn 2 s g)))) (groupsOf (record { 0 = n }))) counts))
 
           pub parity-bad : t ≡ true → No ParityDiffers ≡ checkStereo p mode s
           unfolding refuse

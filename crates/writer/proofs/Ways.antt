@@ -11,7 +11,7 @@ use Rattle.format.specs.Lists.{joined}
 use Rattle.format.specs.Header.{groupsOf}
 use Rattle.format.specs.Refusals.{refuse, _then_}
 use Rattle.format.specs.Answers.{wrote, refusedBy}
-use Rattle.format.specs.Encoding.{groupAt, fileOf, checkEncoder, checkSamples, checkStereo, checkSize, checkEncode, checkEncodeInto, encodeOf, encodeInto}
+use Rattle.format.specs.Encoding.{encodedGroupAt, encodedFile, checkEncoder, checkSamples, checkStereo, checkSize, checkEncode, checkEncodeInto, encodeOf, encodeInto, framesOf}
 use Rattle.format.specs.declared.refusals.Refusal.the-variants.{DataTooLarge}
 use Rattle.format.specs.declared.refusals.Checked.{Checked}
 use Rattle.format.specs.declared.refusals.Checked.the-variants.{Fine, No}
@@ -38,22 +38,22 @@ module _ (p : PcmSpec) (mode : StereoMode) (s : List ℤ) where
   in-stages = regroup (checkEncoder p) (checkSamples p s) (checkStereo p mode s) (checkSize p mode s)
 
   -- f is the frames, n the length of the data, start their offset
-  module _ (f : Frames) (counts : f .0 ≡ length s / p .channels) (n : ℕ) (sized : n ≡ length (joined (groupAt p mode s) (groupsOf (f .0)))) where
-    in-all : n ≡ length (joined (groupAt p mode s) (groupsOf (length s / p .channels)))
-    in-all = sized ∙ ap (λ (m : ℕ). length (joined (groupAt p mode s) (groupsOf m))) counts
+  module _ (f : Frames) (counts : f .0 ≡ length s / p .channels) (n : ℕ) (sized : n ≡ length (joined (encodedGroupAt p mode s) (groupsOf f))) where
+    in-all : n ≡ length (joined (encodedGroupAt p mode s) (groupsOf (framesOf p s)))
+    in-all = sized ∙ ap (λ (m : ℕ). length (joined (encodedGroupAt p mode s) (groupsOf (record { 0 = m })))) counts
 
-    module _ (start : ℕ) (starts : start ≡ 120 + 4 * (groupsOf (f .0) + 1)) where
-      file-is : length (fileOf p mode s) ≡ start + n
-      unfolding fileOf
-      file-is = assembled-length p (length s / p .channels) (groupAt p mode s) ∙ omega (arith, in-all, starts ∙ ap (λ (m : ℕ). 120 + 4 * (groupsOf m + 1)) counts)
+    module _ (start : ℕ) (starts : start ≡ 120 + 4 * (groupsOf f + 1)) where
+      file-is : length (encodedFile p mode s) ≡ start + n
+      unfolding encodedFile
+      file-is = assembled-length p (framesOf p s) (encodedGroupAt p mode s) ∙ omega (arith, in-all, starts ∙ ap (λ (m : ℕ). 120 + 4 * (groupsOf (record { 0 = m }) + 1)) counts)
 
-      pub file-fits : (room : ℕ) → start + n ≤ room → length (fileOf p mode s) ≤ room
+      pub file-fits : (room : ℕ) → start + n ≤ room → length (encodedFile p mode s) ≤ room
       file-fits room l = omega (arith, file-is)
 
-      pub file-short : (room : ℕ) → room < start + n → room < length (fileOf p mode s)
+      pub file-short : (room : ℕ) → room < start + n → room < length (encodedFile p mode s)
       file-short room l = omega (arith, file-is)
 
-      pub file-wrote : (a : Answer) → a ≡ wrote (start + n) → a ≡ wrote (length (fileOf p mode s))
+      pub file-wrote : (a : Answer) → a ≡ wrote (start + n) → a ≡ wrote (length (encodedFile p mode s))
       file-wrote a e = e ∙ ap wrote (sym file-is)
 
   module _ (k : Checked) (says : k ≡ checkInput p mode s) (fine : k ≡ Fine) where
@@ -69,7 +69,7 @@ module _ (p : PcmSpec) (mode : StereoMode) (s : List ℤ) where
     pub frames-count : length s / p .channels < 4294967296
     frames-count = input-accepted .count
 
-    module _ (f : Frames) (counts : f .0 ≡ length s / p .channels) (n : ℕ) (sized : n ≡ length (joined (groupAt p mode s) (groupsOf (f .0)))) where
+    module _ (f : Frames) (counts : f .0 ≡ length s / p .channels) (n : ℕ) (sized : n ≡ length (joined (encodedGroupAt p mode s) (groupsOf f))) where
       past-input : (b : Checked) → (checkEncode p mode s then b) ≡ (refuse (ltb 4294967295 n) DataTooLarge then b)
       unfolding checkSize _then_
       past-input b = in-stages b ∙ rw (← says, fine, ← in-all f counts n sized) refl

@@ -9,7 +9,7 @@ use lib.Dec.{eqb}
 use Rattle.format.specs.Lists.{every, anyBelow}
 use Rattle.format.specs.Numbers.{holds}
 use Rattle.format.specs.Header.{groupsOf}
-use Rattle.format.specs.Encoding.{plain, parity, groupIn, isMidSide}
+use Rattle.format.specs.Encoding.{unwoven, parity, groupIn, isMidSide, framesOf}
 use Rattle.format.specs.declared.settings.PcmSpec.{PcmSpec}
 use Rattle.format.specs.declared.settings.StereoMode.{StereoMode}
 
@@ -21,4 +21,4 @@ pub record Accepted (p : PcmSpec) (mode : StereoMode) (s : List ℤ) : Type 0 wh
   pub count : length s / p .channels < 4294967296
   pub hold : every (holds (p .«bits_per_sample»)) s ≡ true
   pub stereo : (isMidSide mode && not (eqb (p .channels) 2)) ≡ false
-  pub even : isMidSide mode ≡ true → anyBelow (λ g. not (parity (plain (p .channels) (groupIn (p .channels) s g)))) (groupsOf (length s / p .channels)) ≡ false
+  pub even : isMidSide mode ≡ true → anyBelow (λ g. not (parity (unwoven (p .channels) (groupIn (p .channels) s g)))) (groupsOf (framesOf p s)) ≡ false

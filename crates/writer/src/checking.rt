@@ -31,7 +31,7 @@ fn check_stereo(
                 return Checked::No(Refusal::NotStereo);
             }
             let frames = pcm::frames_of(which, words, bytes, 2);
-            if parity_differs(which, words, bytes, frames.0) {
+            if parity_differs(which, words, bytes, frames) {
                 return Checked::No(Refusal::ParityDiffers);
             }
             Checked::Fine

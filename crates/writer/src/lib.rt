@@ -18,7 +18,8 @@ ghost use lib.ListN.{length};
 ghost use Rattle.format.specs.Promises.{Encodes};
 ghost use Rattle.lent.specs.Lent.{lentOf};
 
-// Encoding from either container.
+// Encoding from either container. Of bytes the whole samples are taken: 1 to 3 bytes at the end are no sample, and are
+// not looked at. The host boundary refuses them by 39 before it calls this.
 pub fn encode_lent(
     which: Container,
     words: &[i32],
@@ -33,15 +34,15 @@ pub fn encode_lent(
         return Answer::refused(r);
     }
     let frames = pcm::frames_of(which, words, bytes, p.channels);
-    let size = data_size(which, words, bytes, p, mode, frames.0);
+    let size = data_size(which, words, bytes, p, mode, frames);
     if 0xFFFF_FFFF < size {
         return Answer::refused(Refusal::DataTooLarge);
     }
-    let end = data_start(frames.0) as u64 + size;
+    let end = data_start(frames) as u64 + size;
     if (out.len() as u64) < end {
         return Answer::refused(Refusal::OutputTooShort);
     }
-    write_file(which, words, bytes, p, mode, frames.0, size as u32, out);
+    write_file(which, words, bytes, p, mode, frames, size as u32, out);
     Answer::of(Outcome::Wrote(end))
 }
 

@@ -1,4 +1,6 @@
 // What is found over all groups before anything is written: parity, and how much the groups take.
+use format::Depth;
+use format::Frames;
 use format::PcmSpec;
 use format::StereoMode;
 use lent::Container;
@@ -8,27 +10,33 @@ ghost use Prim.Native.Nat.{_+_, _*_, _/_, _<_, _^_};
 ghost use lib.ListN.{length};
 ghost use Rattle.format.specs.Lists.{anyBelow, joined};
 ghost use Rattle.format.specs.Header.{groupsOf};
-ghost use Rattle.format.specs.Encoding.{plain, parity, groupIn, groupAt};
+ghost use Rattle.format.specs.Encoding.{unwoven, parity, groupIn, encodedGroupAt};
 ghost use Rattle.lent.specs.Lent.{lentOf};
 ghost use Rattle.writer.specs.Accepted.{Accepted};
 
 // The data offset: the table follows byte 120, the data follow the table.
-pub fn data_start(frames: u32) -> u32
+pub fn data_start(frames: Frames) -> u32
     ensures { λ r. ⌜ r ≡ 120 + 4 * (groupsOf frames + 1) ⌝ }
 {
-    120 + 4 * (header::groups_of(frames) + 1)
+    120 + 4 * (frames.groups() + 1)
 }
 
 // Whether in some group of two channels a frame has samples of different parity.
-pub fn parity_differs(which: Container, words: &[i32], bytes: &[u8], frames: u32) -> bool
-    requires { ⌜ length (lentOf which (now words) (now bytes)) ≡ 2 * frames ⌝ }
-    ensures { λ r. ⌜ r ≡ anyBelow (λ g. not (parity (plain 2 (groupIn 2 (lentOf which (now (words .entry)) (now (bytes .entry))) g)))) (groupsOf frames) ⌝ }
+pub fn parity_differs(which: Container, words: &[i32], bytes: &[u8], frames: Frames) -> bool
+    requires { ⌜ length (lentOf which (now words) (now bytes)) ≡ 2 * frames .0 ⌝ }
+    ensures { λ r. ⌜ r ≡ anyBelow (λ g. not (parity (unwoven 2 (groupIn 2 (lentOf which (now (words .entry)) (now (bytes .entry))) g)))) (groupsOf frames) ⌝ }
 {
-    let groups = header::groups_of(frames);
+    let groups = frames.groups();
     let mut g: u32 = 0;
     while g < groups {
-        let n = group::active(frames, g);
-        if stereo::frames_parity(which, words, bytes, 512 * g as usize, n) {} else {
+        let n = frames.active(g).0 as usize;
+        if stereo::frames_parity(
+            which,
+            words,
+            bytes,
+            Depth::SAMPLES_PER_BLOCK * g as usize,
+            n,
+        ) {} else {
             return true;
         }
         g += 1;
@@ -43,17 +51,25 @@ pub fn data_size(
     bytes: &[u8],
     p: PcmSpec,
     mode: StereoMode,
-    frames: u32,
+    frames: Frames,
 ) -> u64
-    requires { ⌜ (Accepted p mode (lentOf which (now words) (now bytes))) × (frames ≡ length (lentOf which (now words) (now bytes)) / p .channels) ⌝ }
-    ensures { λ r. ⌜ (r ≡ length (joined (groupAt p mode (lentOf which (now (words .entry)) (now (bytes .entry)))) (groupsOf frames))) × (r < 2 ^ 53) ⌝ }
+    requires { ⌜ (Accepted p mode (lentOf which (now words) (now bytes))) × (frames .0 ≡ length (lentOf which (now words) (now bytes)) / p .channels) ⌝ }
+    ensures { λ r. ⌜ (r ≡ length (joined (encodedGroupAt p mode (lentOf which (now (words .entry)) (now (bytes .entry)))) (groupsOf frames))) × (r < 2 ^ 53) ⌝ }
 {
-    let groups = header::groups_of(frames);
+    let groups = frames.groups();
     let mut size: u64 = 0;
     let mut g: u32 = 0;
     while g < groups {
-        let n = group::active(frames, g);
-        size += new_group::group_size(which, words, bytes, 512 * g as usize, n, p, mode) as u64;
+        let n = frames.active(g).0 as usize;
+        size += new_group::group_size(
+            which,
+            words,
+            bytes,
+            Depth::SAMPLES_PER_BLOCK * g as usize,
+            n,
+            p,
+            mode,
+        ) as u64;
         g += 1;
     }
     size

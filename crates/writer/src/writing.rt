@@ -1,6 +1,7 @@
 // The file: header, table, and each group in its own part of the lent output.
 use crate::sizing::data_start;
 use format::Depth;
+use format::Frames;
 use format::PcmSpec;
 use format::StereoMode;
 use lent::Container;
@@ -14,7 +15,7 @@ ghost use lib.Seq.{sets};
 ghost use Rattle.format.specs.Lists.{over, joined};
 ghost use Rattle.format.specs.Numbers.{le};
 ghost use Rattle.format.specs.Header.{signature, groupsOf};
-ghost use Rattle.format.specs.Encoding.{groupAt, header, tableOf, fileOf};
+ghost use Rattle.format.specs.Encoding.{encodedGroupAt, headerBytes, tableOf, encodedFile};
 ghost use Rattle.lent.specs.Lent.{lentOf};
 ghost use Rattle.writer.specs.Accepted.{Accepted};
 
@@ -41,19 +42,19 @@ fn write_settings(out: &mut [u8], p: PcmSpec)
 }
 
 // Bytes 16 to 31.
-fn write_places(out: &mut [u8], frames: u32, start: u32, size: u32)
+fn write_places(out: &mut [u8], frames: Frames, start: u32, size: u32)
     requires { ⌜ 32 ≤ length (now out) ⌝ }
-    ensures { λ _. ⌜ now (out .exit) ≡ sets (now (out .entry)) 16 (le 4 frames ++ (le 4 120 ++ (le 4 start ++ le 4 size))) ⌝ }
+    ensures { λ _. ⌜ now (out .exit) ≡ sets (now (out .entry)) 16 (le 4 (frames .0) ++ (le 4 120 ++ (le 4 start ++ le 4 size))) ⌝ }
 {
-    put_u32_le(out, 16, frames);
+    put_u32_le(out, 16, frames.0);
     put_u32_le(out, 20, 120);
     put_u32_le(out, 24, start);
     put_u32_le(out, 28, size);
 }
 
-fn write_header(out: &mut [u8], p: PcmSpec, frames: u32, start: u32, size: u32)
+fn write_header(out: &mut [u8], p: PcmSpec, frames: Frames, start: u32, size: u32)
     requires { ⌜ 120 ≤ length (now out) ⌝ }
-    ensures { λ _. ⌜ now (out .exit) ≡ over (header p frames start size) (now (out .entry)) ⌝ }
+    ensures { λ _. ⌜ now (out .exit) ≡ over (headerBytes p frames start size) (now (out .entry)) ⌝ }
 {
     write_settings(out, p);
     write_places(out, frames, start, size);
@@ -67,26 +68,26 @@ fn write_groups(
     bytes: &[u8],
     p: PcmSpec,
     mode: StereoMode,
-    frames: u32,
+    frames: Frames,
     out: &mut [u8],
 )
-    requires { ⌜ (Accepted p mode (lentOf which (now words) (now bytes))) × (frames ≡ length (lentOf which (now words) (now bytes)) / p .channels) ⌝ }
-    requires { ⌜ (length (joined (groupAt p mode (lentOf which (now words) (now bytes))) (groupsOf frames)) < 4294967296) × (120 + 4 * (groupsOf frames + 1) + length (joined (groupAt p mode (lentOf which (now words) (now bytes))) (groupsOf frames)) ≤ length (now out)) ⌝ }
-    ensures { λ _. ⌜ now (out .exit) ≡ sets (now (out .entry)) 120 (tableOf (groupAt p mode (lentOf which (now (words .entry)) (now (bytes .entry)))) (groupsOf frames) ++ joined (groupAt p mode (lentOf which (now (words .entry)) (now (bytes .entry)))) (groupsOf frames)) ⌝ }
+    requires { ⌜ (Accepted p mode (lentOf which (now words) (now bytes))) × (frames .0 ≡ length (lentOf which (now words) (now bytes)) / p .channels) ⌝ }
+    requires { ⌜ (length (joined (encodedGroupAt p mode (lentOf which (now words) (now bytes))) (groupsOf frames)) < 4294967296) × (120 + 4 * (groupsOf frames + 1) + length (joined (encodedGroupAt p mode (lentOf which (now words) (now bytes))) (groupsOf frames)) ≤ length (now out)) ⌝ }
+    ensures { λ _. ⌜ now (out .exit) ≡ sets (now (out .entry)) 120 (tableOf (encodedGroupAt p mode (lentOf which (now (words .entry)) (now (bytes .entry)))) (groupsOf frames) ++ joined (encodedGroupAt p mode (lentOf which (now (words .entry)) (now (bytes .entry)))) (groupsOf frames)) ⌝ }
 {
-    let groups = header::groups_of(frames);
+    let groups = frames.groups();
     let start = data_start(frames) as usize;
     let mut at: usize = 0;
     let mut g: u32 = 0;
     while g < groups {
         put_u32_le(out, Depth::HEADER_SIZE + 4 * g as usize, at as u32);
-        let n = group::active(frames, g);
+        let n = frames.active(g).0 as usize;
         at += new_group::write_group(
             &mut out[start + at..],
             which,
             words,
             bytes,
-            512 * g as usize,
+            Depth::SAMPLES_PER_BLOCK * g as usize,
             n,
             p,
             mode,
@@ -102,12 +103,12 @@ pub fn write_file(
     bytes: &[u8],
     p: PcmSpec,
     mode: StereoMode,
-    frames: u32,
+    frames: Frames,
     size: u32,
     out: &mut [u8],
 )
-    requires { ⌜ (Accepted p mode (lentOf which (now words) (now bytes))) × (frames ≡ length (lentOf which (now words) (now bytes)) / p .channels) × (size ≡ length (joined (groupAt p mode (lentOf which (now words) (now bytes))) (groupsOf frames))) × (length (fileOf p mode (lentOf which (now words) (now bytes))) ≤ length (now out)) ⌝ }
-    ensures { λ _. ⌜ now (out .exit) ≡ over (fileOf p mode (lentOf which (now (words .entry)) (now (bytes .entry)))) (now (out .entry)) ⌝ }
+    requires { ⌜ (Accepted p mode (lentOf which (now words) (now bytes))) × (frames .0 ≡ length (lentOf which (now words) (now bytes)) / p .channels) × (size ≡ length (joined (encodedGroupAt p mode (lentOf which (now words) (now bytes))) (groupsOf frames))) × (length (encodedFile p mode (lentOf which (now words) (now bytes))) ≤ length (now out)) ⌝ }
+    ensures { λ _. ⌜ now (out .exit) ≡ over (encodedFile p mode (lentOf which (now (words .entry)) (now (bytes .entry)))) (now (out .entry)) ⌝ }
 {
     write_header(out, p, frames, data_start(frames), size);
     write_groups(which, words, bytes, p, mode, frames, out);

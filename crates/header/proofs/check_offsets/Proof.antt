@@ -14,15 +14,15 @@ returns-2 c = search chain
 
 returns-3 : tie.Need-returns-3
 unfolding checkOffsets
-returns-3 c = rw (← (c .before .groups-of .ensures .0)) (search chain)
+returns-3 c = rw (← (c .before .groups .ensures .0)) (search chain)
 
 returns-4 : tie.Need-returns-4
 unfolding checkOffsets
-returns-4 c = rw (← (c .before .before .before .before .groups-of .ensures .0)) (search chain)
+returns-4 c = rw (← (c .before .before .before .before .groups .ensures .0)) (search chain)
 
 returns-5 : tie.Need-returns-5
 unfolding checkOffsets
-returns-5 c = rw (← (c .before .before .before .before .groups-of .ensures .0)) (search chain)
+returns-5 c = rw (← (c .before .before .before .before .groups .ensures .0)) (search chain)
 
 pub check-offsets-spec : {M : Type 1} → statement M
 check-offsets-spec =

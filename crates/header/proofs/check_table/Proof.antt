@@ -6,27 +6,27 @@ use Rattle.header.proofs.check_table.Tie as tie
 
 returns : tie.Need-returns
 unfolding checkTable
-returns c = rw (← (c .before .before .before .groups-of .ensures .0)) (search (chain, flags))
+returns c = rw (← (c .before .before .before .groups .ensures .0)) (search (chain, flags))
 
 returns-2 : tie.Need-returns-2
 unfolding checkTable
-returns-2 c = rw (← (c .before .before .before .before .before .before .groups-of .ensures .0)) (search (chain, flags) depth 7)
+returns-2 c = rw (← (c .before .before .before .before .before .before .groups .ensures .0)) (search (chain, flags) depth 7)
 
 returns-3 : tie.Need-returns-3
 unfolding checkTable
-returns-3 c = rw (← (c .before .before .before .before .before .before .groups-of .ensures .0)) (search (chain, flags, any-zero) depth 8)
+returns-3 c = rw (← (c .before .before .before .before .before .before .groups .ensures .0)) (search (chain, flags, any-zero) depth 8)
 
 returns-4 : tie.Need-returns-4
 unfolding checkTable
-returns-4 c = rw (← (c .before .before .before .before .before .before .groups-of .ensures .0)) (search (chain, flags) depth 8)
+returns-4 c = rw (← (c .before .before .before .before .before .before .groups .ensures .0)) (search (chain, flags) depth 8)
 
 returns-5 : tie.Need-returns-5
 unfolding checkTable
-returns-5 c = rw (← (c .before .before .before .before .before .before .before .before .groups-of .ensures .0)) (search (chain, flags) depth 8)
+returns-5 c = rw (← (c .before .before .before .before .before .before .before .before .groups .ensures .0)) (search (chain, flags) depth 8)
 
 returns-6 : tie.Need-returns-6
 unfolding checkTable
-returns-6 c = rw (← (c .before .before .before .before .before .before .before .before .groups-of .ensures .0)) (search (chain, flags) depth 8)
+returns-6 c = rw (← (c .before .before .before .before .before .before .before .before .groups .ensures .0)) (search (chain, flags) depth 8)
 
 pub check-table-spec : {M : Type 1} → statement M
 check-table-spec =

@@ -44,45 +44,49 @@ kept c =
 loop-holds : tie.Need-loop-holds Inv-loop μ-loop
 loop-holds c = let x = c .before .args in (omega arith, refl, refl, woven-none (lentOf (x .which) (x .words .now) (x .bytes .now)) (x .first * 2) (x .skip) (x .t7), refl)
 
-add-put-sample : tie.Need-add-put-sample Inv-loop μ-loop
-add-put-sample c = let i = c .before .before in omega (arith, fits (i .before .before .before), within i)
+add-place : tie.Need-add-place Inv-loop μ-loop
+add-place c = let i = c .before .before in omega (arith, fits (i .before .before .before), within i)
 
-mul-put-sample : tie.Need-mul-put-sample Inv-loop μ-loop
-mul-put-sample c = let i = c .before .before in omega (arith, fits (i .before .before .before), within i)
+place-requires : tie.Need-place-requires Inv-loop μ-loop
+place-requires c κs = let i = c .before .before in omega (arith, fits (i .before .before .before), within i)
 
 put-sample-requires : tie.Need-put-sample-requires Inv-loop μ-loop
-put-sample-requires c κs = let i = c .before .before .before in rw (i .before .loop .inv .3, kept i) (omega (arith, within i))
+put-sample-requires c κs =
+    let p = c .before in
+    let i = p .before .before .before in
+    rw (p .place .ensures, i .before .loop .inv .3, kept i) (omega (arith, within i))
 
-add-put-sample-3 : tie.Need-add-put-sample-3 Inv-loop μ-loop
-add-put-sample-3 c = let i = c .before .before .before .before .before .before .before .before .before in omega (arith, fits (i .before .before .before), within i)
+add-place-2 : tie.Need-add-place-2 Inv-loop μ-loop
+add-place-2 c = let i = c .before .before .before .before .before .before .before .before .before .before in omega (arith, fits (i .before .before .before), within i)
 
-mul-put-sample-3 : tie.Need-mul-put-sample-3 Inv-loop μ-loop
-mul-put-sample-3 c = let i = c .before .before .before .before .before .before .before .before .before in omega (arith, fits (i .before .before .before), within i)
-
-add-put-sample-4 : tie.Need-add-put-sample-4 Inv-loop μ-loop
-add-put-sample-4 c = let i = c .before .before .before .before .before .before .before .before .before in omega (arith, fits (i .before .before .before), within i)
+place-requires-2 : tie.Need-place-requires-2 Inv-loop μ-loop
+place-requires-2 c κs = let i = c .before .before .before .before .before .before .before .before .before .before in omega (arith, fits (i .before .before .before), within i)
 
 put-sample-requires-2 : tie.Need-put-sample-requires-2 Inv-loop μ-loop
 put-sample-requires-2 c κs =
-    let g = c .before .before .before .before .before .before in
-    let i = g .before .before .before .before in
-    rw (g .put-sample .ensures .0, length-set, i .before .loop .inv .3, kept i) (omega (arith, within i))
+    let q = c .before in
+    let g = q .before .before .before .before .before .before in
+    let i = g .before .before .before .before .before in
+    rw (q .place2 .ensures, g .put-sample .ensures .0, length-set, i .before .loop .inv .3, kept i) (omega (arith, within i))
 
 loop-again : tie.Need-loop-again Inv-loop μ-loop
 loop-again c =
     let h = c .before .before .before in
-    let g = h .before .before .before .before .before .before .before in
-    let l = g .before .before .before .before .before in
+    let q = h .before .before in
+    let g = q .before .before .before .before .before .before in
+    let p = g .before .before in
+    let i = p .before .before .before in
+    let l = i .before in
     let a = l .before .before in
     let x = a .args in
-    let i = l .loop .inv in (
+    let inv = l .loop .inv in (
       omega arith,
-      h .put-sample2 .kept .1 .0 ∙ g .put-sample .kept .1 .0 ∙ i .1,
-      h .put-sample2 .kept .1 .1 .0 ∙ g .put-sample .kept .1 .1 .0 ∙ i .2,
+      h .put-sample2 .kept .1 .0 ∙ g .put-sample .kept .1 .0 ∙ inv .1,
+      h .put-sample2 .kept .1 .1 .0 ∙ g .put-sample .kept .1 .1 .0 ∙ inv .2,
       h .put-sample2 .ensures .0
-          ∙ rw (g .put-sample .ensures .0, i .3)
-          (woven-turn (lentOf (x .which) (x .words .now) (x .bytes .now)) (x .t7) (x .first) (x .skip) (l .loop .k) (pair a) (within (g .before .before .before .before)) (given (g .before .put-sample-arg3 .given) refl) (given (h .before .put-sample-arg6 .given) refl)),
-      h .put-sample2 .ensures .1 ∙ g .put-sample .ensures .1 ∙ i .4,
+          ∙ rw (g .put-sample .ensures .0, inv .3)
+          (woven-turn (lentOf (x .which) (x .words .now) (x .bytes .now)) (x .t7) (x .first) (x .skip) (l .loop .k) (pair a) (within i) (p .place .ensures) (q .place2 .ensures) (given (g .before .put-sample-arg3 .given) refl) (given (h .before .put-sample-arg6 .given) refl)),
+      h .put-sample2 .ensures .1 ∙ g .put-sample .ensures .1 ∙ inv .4,
     )
 
 returns : tie.Need-returns Inv-loop μ-loop
@@ -98,16 +102,15 @@ interleave-spec =
     Inv-loop
     μ-loop
     loop-holds
-    add-put-sample
-    mul-put-sample
+    add-place
+    place-requires
     (λ c. search needs)
     (λ c. search needs)
     (λ c. search needs)
     (λ c. search needs)
     put-sample-requires
-    add-put-sample-3
-    mul-put-sample-3
-    add-put-sample-4
+    add-place-2
+    place-requires-2
     (λ c. search needs)
     (λ c. search needs)
     (λ c. search needs)

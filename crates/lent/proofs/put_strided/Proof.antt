@@ -38,29 +38,30 @@ within c =
 loop-holds : tie.Need-loop-holds Inv-loop μ-loop
 loop-holds c = let x = c .before .args in (omega arith, refl, refl, strided-none (lentOf (x .which) (x .words .now) (x .bytes .now)) (x .first * x .channels + x .c) (x .channels) (x .skip) (x .t9), refl)
 
-add-put-sample : tie.Need-add-put-sample Inv-loop μ-loop
-add-put-sample c = let i = c .before .before in let a = i .before .before .before in omega (arith, fits a, within i, frame-le (a .args .first + i .before .loop .k) (a .args .channels) (a .args .c) (a .pre .1))
+add-place : tie.Need-add-place Inv-loop μ-loop
+add-place c = let i = c .before .before in let a = i .before .before .before in omega (arith, fits a, within i, frame-le (a .args .first + i .before .loop .k) (a .args .channels) (a .args .c) (a .pre .1))
 
-mul-put-sample : tie.Need-mul-put-sample Inv-loop μ-loop
-mul-put-sample c = let i = c .before .before in omega (arith, fits (i .before .before .before), within i)
-
-add-put-sample-2 : tie.Need-add-put-sample-2 Inv-loop μ-loop
-add-put-sample-2 c = let i = c .before .before in omega (arith, fits (i .before .before .before), within i)
+place-requires : tie.Need-place-requires Inv-loop μ-loop
+place-requires c κs = let i = c .before .before in omega (arith, fits (i .before .before .before), within i)
 
 put-sample-requires : tie.Need-put-sample-requires Inv-loop μ-loop
-put-sample-requires c κs = let i = c .before .before .before in rw (i .before .loop .inv .3, length-strided) (within i)
+put-sample-requires c κs =
+    let p = c .before in
+    let i = p .before .before .before in
+    rw (p .place .ensures, i .before .loop .inv .3, length-strided) (within i)
 
 loop-again : tie.Need-loop-again Inv-loop μ-loop
 loop-again c =
     let g = c .before .before .before in
-    let l = g .before .before .before .before .before in
+    let p = g .before .before in
+    let l = p .before .before .before .before in
     let a = l .before .before in
     let x = a .args in
     let i = l .loop .inv in (
       omega arith,
       g .put-sample .kept .1 .0 ∙ i .1,
       g .put-sample .kept .1 .1 .0 ∙ i .2,
-      g .put-sample .ensures .0 ∙ rw (i .3) (strided-turn (lentOf (x .which) (x .words .now) (x .bytes .now)) (x .t9) (x .first) (x .channels) (x .c) (x .skip) (l .loop .k) (omega (arith, long a)) (given (g .before .put-sample-arg3 .given) refl)),
+      g .put-sample .ensures .0 ∙ rw (i .3) (strided-turn (lentOf (x .which) (x .words .now) (x .bytes .now)) (x .t9) (x .first) (x .channels) (x .c) (x .skip) (l .loop .k) (omega (arith, long a)) (p .place .ensures) (given (g .before .put-sample-arg3 .given) refl)),
       g .put-sample .ensures .1 ∙ i .4,
     )
 
@@ -77,9 +78,8 @@ put-strided-spec =
     Inv-loop
     μ-loop
     loop-holds
-    add-put-sample
-    mul-put-sample
-    add-put-sample-2
+    add-place
+    place-requires
     (λ c. search needs)
     (λ c. search needs)
     (λ c. search needs)

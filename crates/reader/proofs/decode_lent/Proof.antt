@@ -22,7 +22,7 @@ format-of-requires c κs = (search decode-opens, search needs)
 write-groups-requires : tie.Need-write-groups-requires
 write-groups-requires c κs =
     let left = c .before .before .before in
-    let count = left .before .before in
+    let count = left .before .before .before in
     (search ways, search needs, search needs, room-for-all _ _ _ _ _ (count .before .before .before .samples .ensures) (count .count .ensures) (left .if1 .left))
 
 returns-3 : tie.Need-returns-3

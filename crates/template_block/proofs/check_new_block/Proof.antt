@@ -1,6 +1,6 @@
 -- `template_block::check_new_block` meets its contract: a law for each way out.
 use borrow.Author.Needs.{needs}
-use Rattle.format.specs.Reencoding.{checkNewBlock}
+use Rattle.format.specs.Reencoding.{checkReencodeBlock}
 use Rattle.laws.proofs.Chain.{chain, flags}
 use Rattle.block.proofs.Checking.{known-by}
 use Rattle.template_block.proofs.Blocks.{other-flags, bits-beyond, no-values, fit-says, coding-known, known-1, known-32}
@@ -8,19 +8,19 @@ use Rattle.template_block.proofs.check_new_block.Statement.{statement}
 use Rattle.template_block.proofs.check_new_block.Tie as tie
 
 returns : tie.Need-returns
-unfolding checkNewBlock
+unfolding checkReencodeBlock
 returns c = search chain
 
 returns-2 : tie.Need-returns-2
-unfolding checkNewBlock
+unfolding checkReencodeBlock
 returns-2 c = search (chain, flags)
 
 returns-3 : tie.Need-returns-3
-unfolding checkNewBlock
+unfolding checkReencodeBlock
 returns-3 c = search (chain, flags)
 
 returns-4 : tie.Need-returns-4
-unfolding checkNewBlock
+unfolding checkReencodeBlock
 returns-4 c = search (chain, flags)
 
 returns-5 : tie.Need-returns-5

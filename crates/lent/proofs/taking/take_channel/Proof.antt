@@ -33,23 +33,23 @@ within c =
     let a = c .before .before .before in
     place-in (a .args .first) (a .args .n) (c .before .loop .k) (a .args .channels) (a .args .c) (c .loop-test .taken) (a .pre .1) (a .pre .2)
 
-add-sample-at : tie.Need-add-sample-at Inv-loop μ-loop
-add-sample-at c = let a = c .before .before .before in omega (arith, fits a, within c, frame-le (a .args .first + c .before .loop .k) (a .args .channels) (a .args .c) (a .pre .1))
+add-place : tie.Need-add-place Inv-loop μ-loop
+add-place c = let a = c .before .before .before in omega (arith, fits a, within c, frame-le (a .args .first + c .before .loop .k) (a .args .channels) (a .args .c) (a .pre .1))
 
-mul-sample-at : tie.Need-mul-sample-at Inv-loop μ-loop
-mul-sample-at c = omega (arith, fits (c .before .before .before), within c)
+place-requires : tie.Need-place-requires Inv-loop μ-loop
+place-requires c κs = omega (arith, fits (c .before .before .before), within c)
 
-add-sample-at-2 : tie.Need-add-sample-at-2 Inv-loop μ-loop
-add-sample-at-2 c = omega (arith, fits (c .before .before .before), within c)
+sample-at-requires : tie.Need-sample-at-requires Inv-loop μ-loop
+sample-at-requires c κs = omega (arith, within (c .before), c .place .ensures)
 
 loop-again : tie.Need-loop-again Inv-loop μ-loop
 loop-again c =
-    let l = c .before .before .loop in (
+    let l = c .before .before .before .loop in (
       omega arith,
       simp length-set (l .inv .1),
       below-more _ (l .k)
           (λ j h. getD-set-other (l .run) (l .k) j _ (pos 0) (λ e. omega arith) ∙ l .inv .2 j h)
-          (getD-set-same (l .run) (l .k) _ (pos 0) (omega arith) ∙ given (c .sample-at .ok) (c .sample-at .ensures)),
+          (getD-set-same (l .run) (l .k) _ (pos 0) (omega arith) ∙ given (c .sample-at .ok) (rw (c .before .place .ensures) at (c .sample-at .ensures))),
     )
 
 returns : tie.Need-returns Inv-loop μ-loop
@@ -66,10 +66,9 @@ take-channel-spec =
     Inv-loop
     μ-loop
     (λ c. (omega arith, refl, below-none _))
-    add-sample-at
-    mul-sample-at
-    add-sample-at-2
-    (λ c κs. within c)
+    add-place
+    place-requires
+    sample-at-requires
     (λ c. search needs)
     (λ c. search needs)
     (λ c. search needs)

@@ -2,7 +2,7 @@ use mathlib.Core.Path.{_≡_}
 use Prim.Native.Nat.{_-_, _≤_}
 use native.Mathlib.Omega.{arith}
 use borrow.Author.Needs.{needs}
-use Rattle.format.specs.Header.{groupsOf, group}
+use Rattle.format.specs.Header.{groupsOf, groupBytes}
 use Rattle.format.specs.Refusals.{inOrder}
 use Rattle.format.specs.Decoding.{checkGroup}
 use Rattle.format.specs.declared.refusals.Checked.the-variants.{Fine}
@@ -12,7 +12,7 @@ use Rattle.reader.proofs.checking.check_groups.Statement.{statement}
 use Rattle.reader.proofs.checking.check_groups.Tie as tie
 
 abbrev Inv-loop : tie.InvT-loop
-Inv-loop file h format groups g₀ g = (groups ≡ groupsOf (h .frames)) × (g ≤ groups) × (inOrder (λ g. checkGroup h format (group file h g)) g ≡ Fine)
+Inv-loop file h format groups g₀ g = (groups ≡ groupsOf (h .frames)) × (g ≤ groups) × (inOrder (λ g. checkGroup h format (groupBytes file h g)) g ≡ Fine)
 
 abbrev μ-loop : tie.MeasureT-loop
 μ-loop file h format groups g₀ g = groups - g

@@ -10,16 +10,16 @@ use Rattle.reader.proofs.writing.write_groups.Statement.{statement}
 use Rattle.reader.proofs.writing.write_groups.Tie as tie
 
 abbrev Inv-loop : tie.InvT-loop
-Inv-loop which words₀ bytes₀ file h format groups g₀ words bytes g = (groups ≡ groupsOf (h .frames)) × (g ≤ groups) × (length words ≡ length words₀) × (length bytes ≡ length bytes₀) × (lentOf which words bytes ≡ over (parts file h format g) (lentOf which words₀ bytes₀)) × (restOf which words bytes ≡ restOf which words₀ bytes₀)
+Inv-loop which words₀ bytes₀ file h format frames groups g₀ words bytes g = (groups ≡ groupsOf (h .frames)) × (g ≤ groups) × (length words ≡ length words₀) × (length bytes ≡ length bytes₀) × (lentOf which words bytes ≡ over (parts file h format g) (lentOf which words₀ bytes₀)) × (restOf which words bytes ≡ restOf which words₀ bytes₀) × (frames ≡ h .frames)
 
 abbrev μ-loop : tie.MeasureT-loop
-μ-loop which words₀ bytes₀ file h format groups g₀ words bytes g = groups - g
+μ-loop which words₀ bytes₀ file h format frames groups g₀ words bytes g = groups - g
 
 loop-holds : tie.Need-loop-holds Inv-loop μ-loop
 loop-holds c =
-    let b = c .before .before .before in
+    let b = c .before .before .before .before in
     let a = b .args in
-    (search needs, search needs, refl, refl, none-yet _ _ _ (b .pre .0) (b .pre .1) (b .pre .2) (lentOf (a .which) (a .words .now) (a .bytes .now)), refl)
+    (search needs, search needs, refl, refl, none-yet _ _ _ (b .pre .0) (b .pre .1) (b .pre .2) (lentOf (a .which) (a .words .now) (a .bytes .now)), refl, refl)
 
 offset-of-requires : tie.Need-offset-of-requires Inv-loop μ-loop
 offset-of-requires c κs = (search opens, search needs, search needs)
@@ -42,13 +42,14 @@ write-group-requires c κs = (search readable, search needs, search part-room)
 loop-again : tie.Need-loop-again Inv-loop μ-loop
 loop-again c =
     let put = c .before .before .before .write-group in
-    let i = c .before .before .before .before .before .before .before .before .before .before .before .loop .inv in (
+    let i = c .before .before .before .before .before .before .before .before .before .before .before .before .loop .inv in (
       i .0,
       search needs,
       put .kept .1 .0 ∙ i .2,
       put .kept .1 .1 .0 ∙ i .3,
       search one-more,
       put .ensures .1 ∙ i .5,
+      i .6,
     )
 
 returns : tie.Need-returns Inv-loop μ-loop
@@ -68,6 +69,7 @@ write-groups-spec =
     (λ c. search needs)
     (λ c. search needs)
     (λ c κs. search needs)
+    (λ c. search needs)
     sub-write-group
     part-write-group-start
     part-write-group-end

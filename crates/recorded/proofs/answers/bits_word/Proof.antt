@@ -1,8 +1,9 @@
--- A bits word fits 32 bits.
+-- `recorded::bits_word` meets its contract: a bits word fits 32 bits.
 use mir.Syntax.{w16}
 use mir.Val.{SFits}
 use mir.Facts.{sfits-widen, toZ-ofZ}
 use borrow.Author.Needs.{needs}
+use Rattle.recorded.proofs.Sayings.{word-bits}
 use Rattle.recorded.proofs.answers.bits_word.Statement.{statement}
 use Rattle.recorded.proofs.answers.bits_word.Tie as tie
 
@@ -11,6 +12,9 @@ cast-bits-of c =
     let fits : SFits w16 (c .args .bits) = c .fits .bits in
     rw (toZ-ofZ fits) (sfits-widen tt fits)
 
+returns : tie.Need-returns
+returns c = word-bits (c .before .args .bits) (c .before .fits .bits) (c .bits-of .ensures)
+
 pub bits-word-spec : {M : Type 1} → statement M
 bits-word-spec =
     tie.close
@@ -18,4 +22,4 @@ bits-word-spec =
     cast-bits-of
     (λ c κs. search needs)
     (λ c. search needs)
-    (λ c. search needs))
+    returns)

@@ -3,10 +3,10 @@ use Prim.Native.Nat.{_-_, _≤_}
 use mathlib.Core.Path.{_≡_}
 use native.Mathlib.Omega.{arith}
 use borrow.Author.Needs.{needs}
-use Rattle.format.specs.Header.{groupsOf, group}
+use Rattle.format.specs.Header.{groupsOf, groupBytes}
 use Rattle.format.specs.Refusals.{inOrder}
 use Rattle.format.specs.Encoding.{groupIn}
-use Rattle.format.specs.Reencoding.{checkNewGroup}
+use Rattle.format.specs.Reencoding.{checkReencodeGroup}
 use Rattle.format.specs.declared.refusals.Checked.the-variants.{Fine}
 use Rattle.lent.specs.Lent.{lentOf}
 use Rattle.laws.proofs.Reading.{order-more, order-none, order-ends, order-whole}
@@ -15,13 +15,13 @@ use Rattle.template.proofs.checking.check_groups.Statement.{statement}
 use Rattle.template.proofs.checking.check_groups.Tie as tie
 
 abbrev Inv-loop : tie.InvT-loop
-Inv-loop which words bytes p t h start groups g₀ g =
+Inv-loop which words bytes p t h start frames groups g₀ g =
     (groups ≡ groupsOf (h .frames))
     × (g ≤ groups)
-    × (inOrder (λ g. checkNewGroup (h .depth) (h .channels) (group t h g) (groupIn (h .channels) (lentOf which words bytes) g)) g ≡ Fine)
+    × (inOrder (λ g. checkReencodeGroup (h .depth) (h .channels) (groupBytes t h g) (groupIn (h .channels) (lentOf which words bytes) g)) g ≡ Fine)
 
 abbrev μ-loop : tie.MeasureT-loop
-μ-loop which words bytes p t h start groups g₀ g = groups - g
+μ-loop which words bytes p t h start frames groups g₀ g = groups - g
 
 loop-holds : tie.Need-loop-holds Inv-loop μ-loop
 loop-holds c = (search needs, search needs, order-none _)
@@ -49,7 +49,7 @@ returns c = search (order-ends, part-checked)
 
 loop-again : tie.Need-loop-again Inv-loop μ-loop
 loop-again c =
-    let i = c .before .before .before .before .before .before .before .before .loop .inv in
+    let i = c .before .before .before .before .before .before .before .before .before .loop .inv in
     (search needs, search needs, order-more _ _ (i .2) (search part-checked))
 
 returns-2 : tie.Need-returns-2 Inv-loop μ-loop
@@ -72,6 +72,7 @@ check-groups-spec =
     (λ c. search needs)
     (λ c. search needs)
     (λ c κs. search needs)
+    (λ c. search needs)
     (λ c. search needs)
     (λ c. search needs)
     sub-check-new-group

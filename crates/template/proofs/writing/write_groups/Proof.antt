@@ -11,10 +11,10 @@ use Rattle.template.proofs.writing.write_groups.Statement.{statement}
 use Rattle.template.proofs.writing.write_groups.Tie as tie
 
 abbrev Inv-loop : tie.InvT-loop
-Inv-loop which words bytes p t out₀ h start groups g₀ out g = (g ≤ groups) × (length out ≡ length out₀) × (out ≡ laid (lentOf which words bytes) t out₀ g)
+Inv-loop which words bytes p t out₀ h start frames groups g₀ out g = (g ≤ groups) × (length out ≡ length out₀) × (out ≡ laid (lentOf which words bytes) t out₀ g)
 
 abbrev μ-loop : tie.MeasureT-loop
-μ-loop which words bytes p t out₀ h start groups g₀ out g = groups - g
+μ-loop which words bytes p t out₀ h start frames groups g₀ out g = groups - g
 
 read-fields-requires : tie.Need-read-fields-requires Inv-loop μ-loop
 read-fields-requires c κs = search fields-there
@@ -42,10 +42,10 @@ part-write-new-group-start-2 c = search (part-rises, template-ok)
 
 part-write-new-group-end-2 : tie.Need-part-write-new-group-end-2 Inv-loop μ-loop
 part-write-new-group-end-2 c =
-    let entries = c .before .before in
+    let entries = c .before .before .before in
     let test = entries .before .before in
     let fields = test .before .before in
-    ends-within _ _ _ (fields .before .before .before .before .before .before .pre .0) _ (fields .before .before .read-fields .ensures) _ _ (fields .groups-of .ensures .0) (test .loop-test .taken) _ _ (entries .before .entry-at .ensures) (entries .entry-at2 .ensures)
+    ends-within _ _ _ (fields .before .before .before .before .before .before .before .pre .0) _ (fields .before .before .before .read-fields .ensures) _ _ (fields .groups .ensures .0) (test .loop-test .taken) _ _ (entries .before .entry-at .ensures) (entries .entry-at2 .ensures)
 
 write-new-group-requires : tie.Need-write-new-group-requires Inv-loop μ-loop
 write-new-group-requires c κs = (
@@ -85,6 +85,7 @@ write-groups-spec =
     (λ c. search needs)
     (λ c. search needs)
     (λ c κs. search needs)
+    (λ c. search needs)
     sub-write-new-group
     part-write-new-group-start
     (λ c. search needs)

@@ -69,7 +69,6 @@ check-walk-spec =
     returns-3
     (λ c. search needs)
     (λ c κs. search needs)
-    (λ c. search needs)
     (λ c κs. search needs)
     returns-4
     returns-5)

@@ -30,17 +30,31 @@ part-write-group-start c = search step-rises
 
 part-write-group-end : tie.Need-part-write-group-end
 part-write-group-end c =
-    let o = c .before .before .before in
+    let o = c .before .before .before .before in
     let i = o .before .before .before in
-    let r = i .before .before in
+    let r = i .before .before .before in
     let w = r .before .before .before in
-    step-within _ _ _ _ (w .check-walk .ensures) (r .before .enum-told .given .1) _ (r .read-fields .ensures) _ (i .before .groups-of .ensures .0) (i .if1 .left) _ _ (o .before .offset-of .ensures) (o .offset-of2 .ensures)
+    step-within _ _ _ _ (w .check-walk .ensures) (r .before .enum-told .given .1) _ (r .read-fields .ensures) _ (i .before .groups .ensures .0) (i .if1 .left) _ _ (o .before .offset-of .ensures) (o .offset-of2 .ensures)
 
 write-group-requires : tie.Need-write-group-requires
 write-group-requires c κs = (search step-readable, search needs, search step-room)
 
 returns-3 : tie.Need-returns-3
-returns-3 c = ((c .of2 .ensures ∙ search step-reads, search puts-group), search needs)
+returns-3 c =
+    let w = c .before .before .before .before .before in
+    let a = w .before .before .before .before .before in
+    let o = a .before in
+    let f = o .before .before in
+    let i = f .before in
+    let r = i .before .before .before in
+    let k = r .before .before .before in
+    let reads =
+    step-reads _ _ _ _ (k .check-walk .ensures) (r .before .enum-told .given .1) _ (r .read-fields .ensures) _ (i .before .groups .ensures .0) (i .if1 .left)
+    _ (a .active .ensures .0) _ (k .before .count .ensures) _ (c .before .samples .ensures) in
+    let puts =
+    puts-group _ _ _ _ (k .check-walk .ensures) (r .before .enum-told .given .1) _ (r .read-fields .ensures) _ (i .before .groups .ensures .0) (i .if1 .left)
+    _ (a .active .ensures .0) _ _ (o .before .offset-of .ensures) (o .offset-of2 .ensures) _ (f .format-of .ensures) _ _ (k .before .count .ensures) (w .write-group .ensures .0) in
+    ((c .of2 .ensures ∙ reads, puts), search needs)
 
 pub decode-group-lent-spec : {M : Type 1} → statement M
 decode-group-lent-spec =
@@ -65,11 +79,11 @@ decode-group-lent-spec =
     (λ c. search needs)
     offset-of-requires-2
     (λ c κs. search needs)
+    (λ c. search needs)
     sub-write-group
     part-write-group-start
     part-write-group-end
     write-group-requires
-    (λ c. search needs)
     (λ c κs. search needs)
     (λ c κs. search needs)
     (λ c. search needs)

@@ -4,14 +4,14 @@ use native.Mathlib.Omega.{arith}
 use borrow.Author.Needs.{needs}
 use lib.ListN.{length}
 use Rattle.format.specs.Lists.{joined}
-use Rattle.format.specs.Encoding.{groupAt}
+use Rattle.format.specs.Encoding.{encodedGroupAt}
 use Rattle.lent.specs.Lent.{lentOf}
 use Rattle.writer.proofs.Groups.{here-is, group-writable, sized-more, sized-none, sized-all}
 use Rattle.writer.proofs.sizing.data_size.Statement.{statement}
 use Rattle.writer.proofs.sizing.data_size.Tie as tie
 
 abbrev Inv-loop : tie.InvT-loop
-Inv-loop which words bytes p mode frames groups size₀ g₀ size g = (g ≤ groups) × (size ≡ length (joined (groupAt p mode (lentOf which words bytes)) g)) × (size ≤ 135266304 * g)
+Inv-loop which words bytes p mode frames groups size₀ g₀ size g = (g ≤ groups) × (size ≡ length (joined (encodedGroupAt p mode (lentOf which words bytes)) g)) × (size ≤ 135266304 * g)
 
 abbrev μ-loop : tie.MeasureT-loop
 μ-loop which words bytes p mode frames groups size₀ g₀ size g = groups - g
@@ -21,16 +21,16 @@ loop-holds c = (search needs, sized-none _, search needs)
 
 group-size-requires : tie.Need-group-size-requires Inv-loop μ-loop
 group-size-requires c κs =
-    let t = c .before in
+    let t = c .before .before in
     let f = t .before .before .before .before in
-    group-writable (here-is (f .pre .0) (f .pre .1) (t .before .before .groups-of .ensures .0) (t .loop-test .taken) (c .active .ensures .0))
+    group-writable (here-is (f .pre .0) (f .pre .1) (t .before .before .groups .ensures .0) (t .loop-test .taken) (c .before .active .ensures .0))
 
 loop-again : tie.Need-loop-again Inv-loop μ-loop
 loop-again c = (
   search needs,
-  (let t = c .before .before in
+  (let t = c .before .before .before in
       let f = t .before .before .before .before in
-      sized-more (here-is (f .pre .0) (f .pre .1) (t .before .before .groups-of .ensures .0) (t .loop-test .taken) (c .before .active .ensures .0)) (t .before .loop .inv .1) (c .group-size .ensures .0)),
+      sized-more (here-is (f .pre .0) (f .pre .1) (t .before .before .groups .ensures .0) (t .loop-test .taken) (c .before .before .active .ensures .0)) (t .before .loop .inv .1) (c .group-size .ensures .0)),
   search needs,
 )
 
@@ -46,6 +46,7 @@ data-size-spec =
     (λ c κs. search needs)
     loop-holds
     (λ c κs. search needs)
+    (λ c. search needs)
     (λ c. search needs)
     (λ c. search needs)
     group-size-requires

@@ -23,10 +23,10 @@ frames-parity-requires c κs = (search frames-some, search needs, search frames-
 
 returns : tie.Need-returns Inv-loop μ-loop
 returns c =
-    let t = c .before .before .before in
+    let t = c .before .before .before .before in
     let first = t .before .before .before .before in
     let a = first .args in
-    differs-here (lentOf (a .which) (a .words .now) (a .bytes .now)) (a .frames) _ _ _ (first .pre) (t .before .before .groups-of .ensures .0) (t .loop-test .taken) (c .before .before .active .ensures .0) _ (c .before .frames-parity .ensures) (c .if1 .left)
+    differs-here (lentOf (a .which) (a .words .now) (a .bytes .now)) (a .frames) _ _ _ (first .pre) (t .before .before .groups .ensures .0) (t .loop-test .taken) (c .before .before .before .active .ensures .0) _ (c .before .frames-parity .ensures) (c .if1 .left)
 
 loop-again : tie.Need-loop-again Inv-loop μ-loop
 loop-again c = (search needs, search differs-not-yet)
@@ -35,7 +35,7 @@ returns-2 : tie.Need-returns-2 Inv-loop μ-loop
 returns-2 c =
     let i = c .before .loop .inv in
     let a = c .before .before .before .before .args in
-    differs-nowhere (lentOf (a .which) (a .words .now) (a .bytes .now)) (a .frames) _ _ (i .1) (c .before .before .groups-of .ensures .0) (i .0) (c .loop-test .left)
+    differs-nowhere (lentOf (a .which) (a .words .now) (a .bytes .now)) (a .frames) _ _ (i .1) (c .before .before .groups .ensures .0) (i .0) (c .loop-test .left)
 
 pub parity-differs-spec : {M : Type 1} → statement M
 parity-differs-spec =
@@ -46,6 +46,7 @@ parity-differs-spec =
     (λ c κs. search needs)
     loop-holds
     (λ c κs. search needs)
+    (λ c. search needs)
     (λ c. search needs)
     (λ c. search needs)
     frames-parity-requires

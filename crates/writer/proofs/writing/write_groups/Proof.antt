@@ -5,7 +5,7 @@ use borrow.Author.Needs.{needs}
 use lib.ListN.{length}
 use Rattle.format.specs.Lists.{joined}
 use Rattle.format.specs.Header.{groupsOf}
-use Rattle.format.specs.Encoding.{groupAt}
+use Rattle.format.specs.Encoding.{encodedGroupAt}
 use Rattle.lent.specs.Lent.{lentOf}
 use Rattle.writer.proofs.Groups.{here-is, group-writable, sized-none, sized-more, at-most}
 use Rattle.writer.proofs.Filling.{laid, none-laid, group-room, turn-laid, loop-laid}
@@ -13,7 +13,7 @@ use Rattle.writer.proofs.writing.write_groups.Statement.{statement}
 use Rattle.writer.proofs.writing.write_groups.Tie as tie
 
 abbrev Inv-loop : tie.InvT-loop
-Inv-loop which words bytes p mode frames out₀ groups start at₀ g₀ out at g = (g ≤ groups) × (at ≡ length (joined (groupAt p mode (lentOf which words bytes)) g)) × (at ≤ length (joined (groupAt p mode (lentOf which words bytes)) (groupsOf frames))) × (length out ≡ length out₀) × (out ≡ laid (groupAt p mode (lentOf which words bytes)) out₀ start g g)
+Inv-loop which words bytes p mode frames out₀ groups start at₀ g₀ out at g = (g ≤ groups) × (at ≡ length (joined (encodedGroupAt p mode (lentOf which words bytes)) g)) × (at ≤ length (joined (encodedGroupAt p mode (lentOf which words bytes)) (groupsOf frames))) × (length out ≡ length out₀) × (out ≡ laid (encodedGroupAt p mode (lentOf which words bytes)) out₀ start g g)
 
 abbrev μ-loop : tie.MeasureT-loop
 μ-loop which words bytes p mode frames out₀ groups start at₀ g₀ out at g = groups - g
@@ -23,34 +23,34 @@ loop-holds c = (search needs, sized-none _, search needs, refl, none-laid _ _ _)
 
 write-group-requires : tie.Need-write-group-requires Inv-loop μ-loop
 write-group-requires c κs =
-    let u = c .before .before .before .before in
+    let u = c .before .before .before .before .before in
     let t = u .before .before in
     let i = t .before .loop .inv in
     let e = t .before .before in
     let f = e .before .before .before .before in
-    let here = here-is (f .pre .0 .0) (f .pre .0 .1) (e .before .groups-of .ensures .0) (t .loop-test .taken) (c .before .active .ensures .0) in
+    let here = here-is (f .pre .0 .0) (f .pre .0 .1) (e .before .groups .ensures .0) (t .loop-test .taken) (c .before .before .active .ensures .0) in
     (group-writable here, group-room here (i .1) (e .data-start .ensures) (f .args .out .now) (f .pre .1 .1) (u .put-u32-le .last .0) (u .put-u32-le .kept .0 ∙ i .3))
 
 add-at : tie.Need-add-at Inv-loop μ-loop
 add-at c =
     let w = c .before .before in
-    let a = w .before .before in
+    let a = w .before .before .before in
     let t = a .before .before .before .before .before in
     let e = t .before .before in
     let f = e .before .before .before .before in
-    let here = here-is (f .pre .0 .0) (f .pre .0 .1) (e .before .groups-of .ensures .0) (t .loop-test .taken) (a .active .ensures .0) in
+    let here = here-is (f .pre .0 .0) (f .pre .0 .1) (e .before .groups .ensures .0) (t .loop-test .taken) (a .active .ensures .0) in
     omega (arith, at-most here (t .before .loop .inv .1) (w .write-group .ensures .0))
 
 loop-again : tie.Need-loop-again Inv-loop μ-loop
 loop-again c =
     let w = c .before .before in
-    let a = w .before .before in
+    let a = w .before .before .before in
     let u = a .before .before .before in
     let t = u .before .before in
     let i = t .before .loop .inv in
     let e = t .before .before in
     let f = e .before .before .before .before in
-    let here = here-is (f .pre .0 .0) (f .pre .0 .1) (e .before .groups-of .ensures .0) (t .loop-test .taken) (a .active .ensures .0) in (
+    let here = here-is (f .pre .0 .0) (f .pre .0 .1) (e .before .groups .ensures .0) (t .loop-test .taken) (a .active .ensures .0) in (
       search needs,
       sized-more here (i .1) (w .write-group .ensures .0),
       at-most here (i .1) (w .write-group .ensures .0),
@@ -77,6 +77,7 @@ write-groups-spec =
     (λ c. search needs)
     (λ c κs. search needs)
     (λ c κs. search needs)
+    (λ c. search needs)
     (λ c. search needs)
     (λ c. search needs)
     (λ c. search needs)

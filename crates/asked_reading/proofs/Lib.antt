@@ -1,0 +1,3 @@
+-- opening, and decoding into a room of samples
+pub mod Opens
+pub mod Words

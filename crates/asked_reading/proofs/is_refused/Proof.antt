@@ -1,0 +1,17 @@
+-- `asked_reading::is_refused` meets its contract.
+use borrow.Author.Needs.{needs}
+use borrow.Author.Tests.{eq-eqb, ne-eqb}
+use Rattle.asked_reading.specs.Opened.{isRefused}
+use Rattle.asked_reading.proofs.is_refused.Statement.{statement}
+use Rattle.asked_reading.proofs.is_refused.Tie as tie
+
+returns : tie.Need-returns
+unfolding isRefused
+returns c = simp (ne-eqb _ _ (c .if1 .taken))
+
+returns-2 : tie.Need-returns-2
+unfolding isRefused
+returns-2 c = simp (eq-eqb _ _ (c .if1 .left))
+
+pub is-refused-spec : {M : Type 1} → statement M
+is-refused-spec = tie.close (tie.spec returns (λ c. search needs) returns-2)

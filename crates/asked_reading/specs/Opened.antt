@@ -1,0 +1,45 @@
+-- When what opening answers is what was recorded.
+use Prim.Native.Nat.{ℕ, _+_, _*_, _^_}
+use mathlib.Core.Bool.{Bool, false, _&&_}
+use lib.Dec.{eqb}
+use Rattle.format.specs.Units.{bitsIn}
+use Rattle.format.specs.declared.settings.SampleFormat.{SampleFormat}
+use Rattle.format.specs.declared.settings.SampleFormat.the-variants.{Pcm, Float}
+use Rattle.format.specs.declared.answers.Header.{Header}
+use Rattle.format.specs.declared.answers.Outcome.{Outcome}
+use Rattle.format.specs.declared.answers.Outcome.the-variants as outcome
+use Rattle.asked_reading.specs.declared.Opened.{Opened}
+
+-- the number of a sample format in the list
+abbrev pub numberOf : SampleFormat → ℕ
+numberOf Pcm = 0
+numberOf Float = 1
+
+-- every number of the header is the recorded one
+unfoldable pub isHeader : Header → Opened → Bool
+isHeader h want =
+    eqb (h .channels) (want .channels)
+    && eqb (h .rate) (want .rate)
+    && eqb (h .frames .0) (want .frames)
+    && eqb (h .table) (want .table)
+    && eqb (h .start) (want .start)
+    && eqb (h .size) (want .size)
+    && eqb (h .groups) (want .groups)
+    && eqb (bitsIn (h .depth)) (want .depth)
+    && eqb (numberOf (h .format)) (want .format)
+
+-- the file opens, with that header
+abbrev pub isOpened : Outcome → Opened → Bool
+isOpened (outcome.Opened h) want = isHeader h want
+isOpened (outcome.Read n) want = false
+isOpened outcome.Finished want = false
+isOpened (outcome.Wrote n) want = false
+isOpened (outcome.Refused r) want = false
+
+-- the host boundary's number is what decoding would write: 4 bytes for each sample
+unfoldable pub isLength : ℕ → Opened → Bool
+isLength result want = eqb result (4 * (want .frames * want .channels))
+
+-- the refusal's number was said, and the host boundary's is 2 ^ 63 more
+unfoldable pub isRefused : ℕ → ℕ → ℕ → Bool
+isRefused said result number = eqb said number && eqb result (2 ^ 63 + number)

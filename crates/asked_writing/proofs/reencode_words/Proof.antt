@@ -1,0 +1,15 @@
+-- `asked_writing::reencode_words` meets its contract.
+use mathlib.Core.Path.{ap, _∙_}
+use borrow.Author.Needs.{needs}
+use Rattle.format.specs.declared.answers.Answer.{Answer}
+use Rattle.recorded.specs.Said.{saidBy}
+use Rattle.asked_writing.proofs.reencode_words.Statement.{statement}
+use Rattle.asked_writing.proofs.reencode_words.Tie as tie
+
+returns : tie.Need-returns
+returns c =
+    let e = c .before .before .before .encode-pcm-with-template .ensures in
+    (c .of-answer .ensures ∙ ap (λ (a : Answer). saidBy (a .outcome)) (e .0), e .1)
+
+pub reencode-words-spec : {M : Type 1} → statement M
+reencode-words-spec = tie.close (tie.spec (λ c κs. search needs) (λ c κs. search needs) (λ c. search needs) returns)

@@ -1,0 +1,2 @@
+-- what encoding and re-encoding answer and leave
+pub mod Written

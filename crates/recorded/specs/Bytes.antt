@@ -1,0 +1,26 @@
+-- A room of bytes, four to a sample: filled, and changed at a place. What lies behind its last whole sample stays.
+use Prim.Native.Nat.{ℕ, _/_}
+use mathlib.Core.Path.{_≡_}
+use mathlib.Core.Bool.{Bool}
+use mathlib.Core.List.{List}
+use lib.ListN.{length}
+use Rattle.format.specs.Lists.{over}
+use Rattle.format.specs.Boundary.{samplesFrom, sampleBytes}
+use Rattle.recorded.specs.Room.{marked, spoiledAt}
+use Rattle.recorded.specs.Said.{isRecorded}
+use Rattle.recorded.specs.declared.answers.Recorded.{Recorded}
+use Rattle.recorded.specs.declared.answers.Said.{Said}
+
+-- the room, filled
+unfoldable pub markedBytes : List ℕ → List ℕ
+markedBytes room = over (sampleBytes (marked (length room / 4))) room
+
+-- the room with another sample at a place; past its end nothing changes
+unfoldable pub spoiledBytes : ℕ → List ℕ → List ℕ
+spoiledBytes place room = over (sampleBytes (spoiledAt place (samplesFrom room))) room
+
+-- a call said this and wrote that into the room: then the room is changed at a place, which leaves `after`,
+-- and compared with what was recorded
+abbrev pub Answers : Said → List ℕ → ℕ → Recorded → Bool → List ℕ → Type 0
+Answers said written spoiled want same after =
+    (same ≡ isRecorded said want (samplesFrom after)) × (after ≡ spoiledBytes spoiled written)

@@ -1,0 +1,29 @@
+// A room of bytes, four to a sample: what is left of every byte of it.
+use crate::answers::Recorded;
+use crate::answers::Said;
+use crate::answers::is_recorded;
+use crate::room::fill;
+use crate::room::spoil;
+use lent::Container;
+ghost use mathlib.Core.Path.{_≡_};
+ghost use Rattle.recorded.specs.Bytes.{markedBytes, spoiledBytes, Answers};
+
+pub fn fill_bytes(room: &mut [u8])
+    ensures { λ _. ⌜ now (room .exit) ≡ markedBytes (now (room .entry)) ⌝ }
+{
+    fill(Container::Bytes, &mut [], room);
+}
+
+fn spoil_bytes(room: &mut [u8], at: usize)
+    ensures { λ _. ⌜ now (room .exit) ≡ spoiledBytes at (now (room .entry)) ⌝ }
+{
+    spoil(Container::Bytes, &mut [], room, at);
+}
+
+// Whether a call answered as recorded, by what it said and what it wrote, after the room was changed at a place.
+pub fn is_answered(said: Said, spoiled: usize, room: &mut [u8], want: Recorded) -> bool
+    ensures { λ r. ⌜ Answers said (now (room .entry)) spoiled want r (now (room .exit)) ⌝ }
+{
+    spoil_bytes(room, spoiled);
+    is_recorded(said, want, Container::Bytes, &[], room)
+}

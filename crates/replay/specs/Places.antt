@@ -1,0 +1,46 @@
+-- Where the list stands: at its start, and after a question.
+use Prim.Native.Nat.{ℕ}
+use mathlib.Core.Bool.{false, _&&_, cond}
+use lib.Dec.{leb, eqb}
+use Rattle.format.specs.declared.settings.PcmSpec.{PcmSpec}
+use Rattle.recorded.specs.declared.answers.Verdict.{Verdict}
+use Rattle.replay.specs.declared.items.Place.{Place}
+
+-- a place that no room reaches
+abbrev pub nowhere : ℕ
+nowhere = 65536
+
+-- before the first item
+abbrev pub startOf : Place
+startOf = record {
+  items = 0;
+  file = 0;
+  samples = 0;
+  read = 0;
+  written = 0;
+  channels = 0;
+  depth = 0;
+  rate = 0;
+  «is_false» = false;
+  spoiled = nowhere;
+}
+
+-- the settings that the list has put
+abbrev pub specOf : Place → PcmSpec
+specOf place = record { channels = place .channels; «bits_per_sample» = place .depth; «sample_rate» = place .rate }
+
+-- after a question of that kind: decoding, 17, read so many bytes, and encoding, 19, or re-encoding, 20, wrote them;
+-- nothing is false on purpose any more
+unfoldable pub placeAfter : ℕ → Place → Verdict → Place
+placeAfter kind place verdict = record {
+  items = place .items;
+  file = place .file;
+  samples = place .samples;
+  read = cond (eqb kind 17) (verdict .length) (place .read);
+  written = cond (leb 19 kind && leb kind 20) (verdict .length) (place .written);
+  channels = place .channels;
+  depth = place .depth;
+  rate = place .rate;
+  «is_false» = false;
+  spoiled = nowhere;
+}
