@@ -2,12 +2,12 @@
 use std::cell::Cell;
 
 thread_local! {
-    static AT: Cell<(&'static str, &'static str, usize)> = const { Cell::new(("none", "none", 0)) };
+    static AT: Cell<Option<(&'static str, &'static str, usize)>> = const { Cell::new(None) };
 }
 
 /// What this thread looks at from now on: the words that one input is asked for by, its family and its number.
 pub fn now_at(command: &'static str, family: &'static str, index: usize) {
-    AT.set((command, family, index));
+    AT.set(Some((command, family, index)));
 }
 
 // The C library's.
@@ -28,8 +28,12 @@ pub fn watch() {
 
 /// Little is safe in a handler, but the program is at its end.
 extern "C" fn crashed(number: i32) {
-    let (command, family, index) = AT.get();
-    println!("a crash, signal {number}: {command} --input {family} {index} with the seed above");
+    match AT.get() {
+        Some((command, family, index)) => {
+            println!("a crash, signal {number}: {command} --input {family} {index} with the seed above");
+        }
+        None => println!("\na crash, signal {number}"),
+    }
     // SAFETY: it ends the program, without waiting for other threads.
     unsafe { _exit(1) }
 }

@@ -32,6 +32,7 @@ mod input;
 #[path = "../definitions/inputs.rs"]
 mod inputs;
 mod lent;
+mod limits;
 #[path = "../definitions/orders.rs"]
 mod orders;
 mod parts;
@@ -61,7 +62,8 @@ usage: compare [COUNT] [SEED] | compare --file FILE | compare --input FAMILY IND
        compare encode [COUNT] [SEED] | compare encode --input FAMILY INDEX [SEED]
        compare encode --samples FILE CHANNELS DEPTH RATE MODE
        compare reencode [COUNT] [SEED] | compare reencode --input FAMILY INDEX [SEED]
-       compare reencode --call SAMPLES TEMPLATE CHANNELS DEPTH RATE";
+       compare reencode --call SAMPLES TEMPLATE CHANNELS DEPTH RATE
+       compare limits";
 
 fn main() {
     crash::watch();
@@ -84,6 +86,7 @@ fn main() {
             template: bytes_of(template),
         }),
         ["reencode", ref words @ ..] => asked::<reencoding::Call>(words),
+        ["limits"] => limits::run(),
         ref words => asked::<Vec<u8>>(words),
     };
     exit(if same { 0 } else { 1 });

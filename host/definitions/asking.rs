@@ -27,7 +27,10 @@ pub fn ask(question: &Question) -> Answer {
             encode_pcm_with_template(samples, *spec, template).map(Answer::Bytes)
         }
     };
-    answer.unwrap_or_else(refused)
+    answer.unwrap_or_else(|error| {
+        let (number, word) = refused(error);
+        Answer::Refused(number, word)
+    })
 }
 
 fn open(file: &[u8]) -> Result<Answer, NcwError> {
@@ -68,13 +71,14 @@ fn settle_nans(file: &[u8], reader: &NcwReader<Cursor<&[u8]>>, samples: &mut [i3
     }
 }
 
-fn refused(error: NcwError) -> Answer {
+/// Document 01's number, and the bits word where that is 4.
+pub fn refused(error: NcwError) -> (u32, i16) {
     match error {
-        NcwError::Io(_) => Answer::Refused(1, 0),
-        NcwError::InvalidFileSignature => Answer::Refused(2, 0),
-        NcwError::InvalidBlockSignature => Answer::Refused(3, 0),
-        NcwError::UnsupportedBitDepth(bits) => Answer::Refused(4, bits),
-        NcwError::InvalidHeader(message) => Answer::Refused(number_of(message), 0),
+        NcwError::Io(_) => (1, 0),
+        NcwError::InvalidFileSignature => (2, 0),
+        NcwError::InvalidBlockSignature => (3, 0),
+        NcwError::UnsupportedBitDepth(bits) => (4, bits),
+        NcwError::InvalidHeader(message) => (number_of(message), 0),
     }
 }
 

@@ -77,7 +77,7 @@ impl Tally {
     }
 }
 
-/// Every number that a run can reach: 33 and 37 take more samples than memory holds.
+/// Every number that a run can reach: 33 and 37 take more samples than there is room for.
 #[rustfmt::skip]
 const REACHED: [(Asked, &[u8]); 5] = [
     (Asked::Opening, &[0, 1, 2, 3, 10, 11, 12, 13, 14, 15, 16, 17, 18, 19]),

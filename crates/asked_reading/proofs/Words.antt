@@ -11,5 +11,5 @@ use Rattle.recorded.specs.declared.answers.Said.{Said}
 
 pub asked-words : (told : List ℤ → Said) (put : List ℤ → List ℤ) (filled lent written after : List ℤ) (said : Said) (spoiled : ℕ) (want : Recorded) (same : Bool)
     → lent ≡ filled → said ≡ told lent → written ≡ put lent → after ≡ spoiledAt spoiled written → same ≡ isRecorded said want after
-    → (same ≡ isRecorded (told filled) want after) × (after ≡ spoiledAt spoiled (put filled))
-asked-words told put filled lent written after said spoiled want same e f g h a = (a ∙ rw (f, e) refl, h ∙ rw (g, e) refl)
+    → (same ≡ isRecorded (told filled) want (spoiledAt spoiled (put filled))) × (after ≡ spoiledAt spoiled (put filled))
+asked-words told put filled lent written after said spoiled want same e f g h a = (a ∙ rw (h, g, f, e) refl, h ∙ rw (g, e) refl)

@@ -1,7 +1,6 @@
 -- What decoding leaves in a room that is filled before and changed at a place after, and when that is as recorded.
 use Prim.Native.Nat.{ℕ}
-use mathlib.Core.Path.{_≡_}
-use mathlib.Core.Bool.{Bool}
+use mathlib.Core.Bool.{Bool, _&&_}
 use mathlib.Core.List.{List}
 use lib.ListN.{length}
 use lib.IntN.{ℤ}
@@ -9,19 +8,35 @@ use Rattle.format.specs.Decoding.{decodeOf, decodeInto}
 use Rattle.format.specs.Boundary.{hostDecode, hostDecodeInto}
 use Rattle.recorded.specs.Room.{marked, spoiledAt}
 use Rattle.recorded.specs.Said.{saidBy, saidByHost, isRecorded}
-use Rattle.recorded.specs.Bytes.{markedBytes, Answers}
+use Rattle.recorded.specs.Bytes.{markedBytes, spoiledBytes, isAnswered}
 use Rattle.recorded.specs.declared.answers.Recorded.{Recorded}
 
--- the entry decodes the file into a room of samples, and leaves `after` there
-abbrev pub DecodesByEntry : List ℕ → ℕ → Recorded → List ℤ → Bool → List ℤ → Type 0
-DecodesByEntry file spoiled want room same after =
-    let lent = marked (length room) in
-    let said = saidBy (decodeOf file (length lent) .outcome) in
-    (same ≡ isRecorded said want after) × (after ≡ spoiledAt spoiled (decodeInto file lent))
+-- ---- the entry decodes the file into a room of samples
 
--- the host boundary decodes it into a room of bytes
-abbrev pub DecodesByHost : List ℕ → ℕ → Recorded → List ℕ → Bool → List ℕ → Type 0
-DecodesByHost file spoiled want room same after =
+-- what it leaves there
+abbrev pub decodedWords : List ℕ → ℕ → List ℤ → List ℤ
+decodedWords file spoiled room = spoiledAt spoiled (decodeInto file (marked (length room)))
+
+-- it answers as recorded
+abbrev pub entryDecodes : List ℕ → ℕ → Recorded → List ℤ → Bool
+entryDecodes file spoiled want room =
+    let said = saidBy (decodeOf file (length (marked (length room))) .outcome) in
+    isRecorded said want (decodedWords file spoiled room)
+
+-- ---- the host boundary decodes it into a room of bytes
+
+-- what it leaves there
+abbrev pub decodedBytes : List ℕ → ℕ → List ℕ → List ℕ
+decodedBytes file spoiled room = spoiledBytes spoiled (hostDecodeInto file (markedBytes room))
+
+-- it answers as recorded
+abbrev pub hostDecodes : List ℕ → ℕ → Recorded → List ℕ → Bool
+hostDecodes file spoiled want room =
     let lent = markedBytes room in
     let said = saidByHost (hostDecode file (length lent)) (want .bits) in
-    Answers said (hostDecodeInto file lent) spoiled want same after
+    isAnswered said (hostDecodeInto file lent) spoiled want
+
+-- ---- both do
+
+abbrev pub bothDecode : List ℕ → ℕ → Recorded → List ℤ → List ℕ → Bool
+bothDecode file spoiled want words bytes = entryDecodes file spoiled want words && hostDecodes file spoiled want bytes

@@ -18,9 +18,10 @@ ghost use Rattle.format.specs.Lists.{over};
 ghost use Rattle.format.specs.Encoding.{encodeOf, encodeInto};
 ghost use Rattle.format.specs.Reencoding.{reencodeOf, reencodeInto};
 ghost use Rattle.format.specs.Boundary.{modeOf, hostEncode, hostEncodeInto, hostReencode, hostReencodeInto};
-ghost use Rattle.recorded.specs.Said.{saidBy, saidByHost};
-ghost use Rattle.asked_writing.specs.Written.{taken, EncodesByEntry, EncodesByHost};
-ghost use Rattle.asked_writing.specs.Written.{ReencodesByEntry, ReencodesByHost};
+ghost use Rattle.recorded.specs.Said.{saidBy, saidByHost, verdictOf};
+ghost use Rattle.asked_writing.specs.Written.{taken, entryEncodes, encodedByEntry, hostEncodes, encodedByHost};
+ghost use Rattle.asked_writing.specs.Written.{bothEncode, encodedByBoth, entryReencodes, reencodedByEntry};
+ghost use Rattle.asked_writing.specs.Written.{hostReencodes, reencodedByHost, bothReencode, reencodedByBoth};
 
 // The samples that the bytes are, as many as there is room for; how many.
 fn take_samples(bytes: &[u8], words: &mut [i32]) -> usize
@@ -57,8 +58,9 @@ fn encode_by_entry(
     room: &mut [u8],
     want: Recorded,
 ) -> bool
-    ensures { λ r. ⌜ EncodesByEntry (now (samples .entry)) p mode spoiled want
-        (now (room .entry)) r (now (room .exit)) ⌝ }
+    ensures says { λ r. ⌜ r ≡ entryEncodes (now (samples .entry)) p mode spoiled want (now (room .entry)) ⌝ }
+    ensures leaves { λ _. ⌜ (let before = now (room .entry) in
+        now (room .exit) ≡ encodedByEntry (now (samples .entry)) p mode spoiled before) ⌝ }
 {
     if 3 <= mode {
         return true;
@@ -97,12 +99,31 @@ fn encode_by_host(
     room: &mut [u8],
     want: Recorded,
 ) -> bool
-    ensures { λ r. ⌜ EncodesByHost (now (samples .entry)) p mode spoiled want
-        (now (room .entry)) r (now (room .exit)) ⌝ }
+    ensures says { λ r. ⌜ r ≡ hostEncodes (now (samples .entry)) p mode spoiled want (now (room .entry)) ⌝ }
+    ensures leaves { λ _. ⌜ (let before = now (room .entry) in
+        now (room .exit) ≡ encodedByHost (now (samples .entry)) p mode spoiled before) ⌝ }
 {
     fill_bytes(room);
     let said = encode_bytes(samples, p, mode, room, want.bits);
     is_answered(said, spoiled, room, want)
+}
+
+fn judge_encode(
+    samples: &[u8],
+    p: PcmSpec,
+    mode: u32,
+    spoiled: usize,
+    room: &mut [u8],
+    want: Recorded,
+) -> Verdict
+    ensures says { λ r. ⌜ (let before = now (room .entry) in
+        r ≡ verdictOf (bothEncode (now (samples .entry)) p mode spoiled want before) want) ⌝ }
+    ensures leaves { λ _. ⌜ (let before = now (room .entry) in
+        now (room .exit) ≡ encodedByBoth (now (samples .entry)) p mode spoiled before) ⌝ }
+{
+    let by_entry = encode_by_entry(samples, p, mode, spoiled, room, want);
+    let by_host = encode_by_host(samples, p, mode, spoiled, room, want);
+    judged(by_entry & by_host, want)
 }
 
 pub fn encode(
@@ -114,9 +135,7 @@ pub fn encode(
     room: &mut [u8],
 ) -> Verdict {
     let want = read_recorded(list, false);
-    let by_entry = encode_by_entry(samples, p, mode, spoiled, room, want);
-    let by_host = encode_by_host(samples, p, mode, spoiled, room, want);
-    judged(by_entry & by_host, want)
+    judge_encode(samples, p, mode, spoiled, room, want)
 }
 
 fn reencode_words(samples: &[i32], p: PcmSpec, old: &[u8], room: &mut [u8]) -> Said
@@ -136,8 +155,10 @@ fn reencode_by_entry(
     room: &mut [u8],
     want: Recorded,
 ) -> bool
-    ensures { λ r. ⌜ ReencodesByEntry (now (samples .entry)) p (now (old .entry)) spoiled want
-        (now (room .entry)) r (now (room .exit)) ⌝ }
+    ensures says { λ r. ⌜ (let before = now (room .entry) in
+        r ≡ entryReencodes (now (samples .entry)) p (now (old .entry)) spoiled want before) ⌝ }
+    ensures leaves { λ _. ⌜ (let before = now (room .entry) in
+        now (room .exit) ≡ reencodedByEntry (now (samples .entry)) p (now (old .entry)) spoiled before) ⌝ }
 {
     if samples.len() % 4 != 0 {
         return true;
@@ -174,12 +195,32 @@ fn reencode_by_host(
     room: &mut [u8],
     want: Recorded,
 ) -> bool
-    ensures { λ r. ⌜ ReencodesByHost (now (samples .entry)) p (now (old .entry)) spoiled want
-        (now (room .entry)) r (now (room .exit)) ⌝ }
+    ensures says { λ r. ⌜ (let before = now (room .entry) in
+        r ≡ hostReencodes (now (samples .entry)) p (now (old .entry)) spoiled want before) ⌝ }
+    ensures leaves { λ _. ⌜ (let before = now (room .entry) in
+        now (room .exit) ≡ reencodedByHost (now (samples .entry)) p (now (old .entry)) spoiled before) ⌝ }
 {
     fill_bytes(room);
     let said = reencode_bytes(samples, p, old, room, want.bits);
     is_answered(said, spoiled, room, want)
+}
+
+fn judge_reencode(
+    samples: &[u8],
+    p: PcmSpec,
+    old: &[u8],
+    spoiled: usize,
+    room: &mut [u8],
+    want: Recorded,
+) -> Verdict
+    ensures says { λ r. ⌜ (let before = now (room .entry) in
+        r ≡ verdictOf (bothReencode (now (samples .entry)) p (now (old .entry)) spoiled want before) want) ⌝ }
+    ensures leaves { λ _. ⌜ (let before = now (room .entry) in
+        now (room .exit) ≡ reencodedByBoth (now (samples .entry)) p (now (old .entry)) spoiled before) ⌝ }
+{
+    let by_entry = reencode_by_entry(samples, p, old, spoiled, room, want);
+    let by_host = reencode_by_host(samples, p, old, spoiled, room, want);
+    judged(by_entry & by_host, want)
 }
 
 pub fn reencode(
@@ -191,7 +232,5 @@ pub fn reencode(
     room: &mut [u8],
 ) -> Verdict {
     let want = read_recorded(list, false);
-    let by_entry = reencode_by_entry(samples, p, old, spoiled, room, want);
-    let by_host = reencode_by_host(samples, p, old, spoiled, room, want);
-    judged(by_entry & by_host, want)
+    judge_reencode(samples, p, old, spoiled, room, want)
 }

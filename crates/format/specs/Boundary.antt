@@ -47,7 +47,7 @@ checkBytes bytes = refuse (not (eqb (length bytes % 4) 0)) SampleBytes  -- 39
 -- the length in bytes (for opening, what decoding would write), or 2 ^ 63 plus the refusal number
 abbrev pub result : Outcome → ℕ
 result (Opened header) = 4 * samplesIn (header .frames) (header .channels) .0
-result (Read samples) = 4 * samples .0
+result (Read count) = 4 * count .0
 result (Wrote size) = size
 result (Refused refusal) = 2 ^ 63 + number refusal
 result Finished = 0
@@ -71,7 +71,7 @@ unfoldable pub checkHostEncode : List ℕ → PcmSpec → ℕ → ℕ → Checke
 checkHostEncode bytes spec word room =
     checkMode word  -- 38
     then checkBytes bytes  -- 39
-    then checkEncodeInto spec (modeOf word) (samplesFrom bytes) room
+    then checkEncodeInto spec (modeOf word) (samplesFrom bytes) room  -- 30 to 37, 50
 
 unfoldable pub hostEncode : List ℕ → PcmSpec → ℕ → ℕ → ℕ
 hostEncode bytes spec word room =
@@ -88,7 +88,7 @@ hostEncodeInto bytes spec word lent =
 unfoldable pub checkHostReencode : List ℕ → PcmSpec → List ℕ → ℕ → Checked
 checkHostReencode bytes spec template room =
     checkBytes bytes  -- 39
-    then checkReencodeInto spec (samplesFrom bytes) template room
+    then checkReencodeInto spec (samplesFrom bytes) template room  -- 30 to 33, 1, 2, 40 to 46, 50
 
 unfoldable pub hostReencode : List ℕ → PcmSpec → List ℕ → ℕ → ℕ
 hostReencode bytes spec template room =

@@ -46,7 +46,8 @@ checkBlock fields format c block =
 -- each channel in order; after the channels 22
 unfoldable pub checkGroup : Fields → SampleFormat → List ℕ → Checked
 checkGroup fields format group =
-    inOrder (λ c. checkBlock fields format c (fromBlock (fields .depth) group c)) (fields .channels)
+    let check : ℕ → Checked = λ c. checkBlock fields format c (fromBlock (fields .depth) group c) in
+    inOrder check (fields .channels)  -- 1, 3, 20, 21, 4, 1
     then refuse (not (eqb (length (fromBlock (fields .depth) group (fields .channels))) 0)) BytesLeft  -- 22
 
 -- the channels as they are coded
@@ -72,19 +73,21 @@ groupSamples fields format g group = woven (active (fields .frames) g) (channels
 unfoldable pub checkDecode : List ℕ → Checked
 checkDecode file =
     let fields = fieldsOf file in
-    checkOpen file
-    then inOrder (λ g. checkGroup fields (formatOf file fields) (groupBytes file fields g)) (groupsOf (fields .frames))
+    let check : ℕ → Checked = λ g. checkGroup fields (formatOf file fields) (groupBytes file fields g) in
+    checkOpen file  -- 1, 2, 10 to 15, 1, 16 to 19, 3
+    then inOrder check (groupsOf (fields .frames))  -- 1, 3, 20, 21, 4, 1, 22
 
 unfoldable pub decodedOf : List ℕ → List ℤ
 decodedOf file =
     let fields = fieldsOf file in
-    joined (λ g. groupSamples fields (formatOf file fields) g (groupBytes file fields g)) (groupsOf (fields .frames))
+    let part : ℕ → List ℤ = λ g. groupSamples fields (formatOf file fields) g (groupBytes file fields g) in
+    joined part (groupsOf (fields .frames))
 
 -- how many samples that is: frames × channels
 abbrev pub decodedCount : List ℕ → Samples
 decodedCount file = let fields = fieldsOf file in samplesIn (fields .frames) (fields .channels)
 
--- against that
+-- room, against that count
 unfoldable pub checkRoom : List ℕ → ℕ → Checked
 checkRoom file room = refuse (ltb room (decodedCount file .0)) OutputTooShort  -- 50
 

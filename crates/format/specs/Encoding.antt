@@ -73,16 +73,21 @@ firstValue (x ∷ xs) = x
 -- a block's bytes; padding 0
 unfoldable pub blockBytes : ℤ → ℤ → ℕ → List ℕ → List ℕ
 blockBytes base bits flags run =
-    blockMark ++ (le 4 (codeOf 32 base) ++ (le 2 (codeOf 16 bits) ++ (le 2 flags ++ (le 4 0 ++ run))))
+    blockMark
+    ++ (le 4 (codeOf 32 base)
+    ++ (le 2 (codeOf 16 bits)
+    ++ (le 2 flags
+    ++ (le 4 0
+    ++ run))))
 
 -- a width under the depth gives differences at it; otherwise raw, bits = −depth;
 -- base is the block's first value, in raw blocks too
 unfoldable pub encodedBlock : ℕ → ℕ → List ℤ → List ℕ
 encodedBlock depth flags xs =
     let width = leastWidth (differences xs) in
-    let small = blockBytes (firstValue xs) (pos width) flags (packing width (differences xs)) in
+    let byDifferences = blockBytes (firstValue xs) (pos width) flags (packing width (differences xs)) in
     let raw = blockBytes (firstValue xs) (negℤ (pos depth)) flags (packing depth xs) in
-    cond (ltb width depth) small raw
+    cond (ltb width depth) byDifferences raw
 
 -- one block per channel
 unfoldable pub blocks : ℕ → ℕ → List (List ℤ) → List ℕ
@@ -129,9 +134,9 @@ unfoldable pub encodedGroup : PcmSpec → StereoMode → List ℤ → List ℕ
 encodedGroup spec mode samples =
     let depth = spec .«bits_per_sample» in
     let chans = paddedChannels (spec .channels) samples in
-    let both = blocks depth 1 (midSide chans) in
+    let midSided = blocks depth 1 (midSide chans) in
     let direct = blocks depth 0 chans in
-    cond (takesMid mode (spec .channels) depth samples) both direct
+    cond (takesMid mode (spec .channels) depth samples) midSided direct
 
 -- the samples of group g's frames
 unfoldable pub groupIn : ℕ → List ℤ → ℕ → List ℤ

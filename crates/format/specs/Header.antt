@@ -12,7 +12,7 @@ use Rattle.format.specs.declared.answers.Fields.{Fields}
 
 -- the signature 01 A8 9E D6 31 01 00 00, or the same with 30 for 31
 unfoldable pub signature : ℕ → List ℕ
-signature x = 0x01 ∷ 0xA8 ∷ 0x9E ∷ 0xD6 ∷ x ∷ 0x01 ∷ 0x00 ∷ 0x00 ∷ []
+signature fifth = 0x01 ∷ 0xA8 ∷ 0x9E ∷ 0xD6 ∷ fifth ∷ 0x01 ∷ 0x00 ∷ 0x00 ∷ []
 
 unfoldable pub isSignature : List ℕ → Bool
 isSignature file = same (take 8 file) (signature 0x31) || same (take 8 file) (signature 0x30)

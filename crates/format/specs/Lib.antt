@@ -1,4 +1,4 @@
--- Document 01 as definitions, a file for each of its sections and in its order.
+-- Document 01 as definitions, by its sections.
 -- Lists, Numbers: the words that the others are written in.
 pub mod Lists
 pub mod Numbers

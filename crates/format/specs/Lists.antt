@@ -11,7 +11,7 @@ module _ {A : Type 0} where
   -- f 0, f 1, .. f (n - 1)
   unfoldable pub tab : ℕ → (ℕ → A) → List A
   tab zero f = []
-  tab (suc n) f = f 0 ∷ tab n (λ k. f (suc k))
+  tab (suc n) f = f 0 ∷ tab n (λ i. f (suc i))
 
   -- part 0, part 1, .. part (n - 1), one after another
   unfoldable pub joined : (ℕ → List A) → ℕ → List A
@@ -32,7 +32,7 @@ module _ {A : Type 0} where
   lastOr d (x ∷ xs) = lastOr x xs
 
   -- f of each pair
-  unfoldable pub pairwise : {B : Type 0} → (A → A → B) → List A → List A → List B
+  unfoldable pub pairwise : {C : Type 0} → (A → A → C) → List A → List A → List C
   pairwise f [] ys = []
   pairwise f (x ∷ xs) [] = []
   pairwise f (x ∷ xs) (y ∷ ys) = f x y ∷ pairwise f xs ys
@@ -42,7 +42,7 @@ module _ {A : Type 0} where
   every test [] = true
   every test (x ∷ xs) = test x && every test xs
 
--- some k below n passes the test
+-- some i below n passes the test
 unfoldable pub anyBelow : (ℕ → Bool) → ℕ → Bool
 anyBelow test zero = false
 anyBelow test (suc n) = anyBelow test n || test n

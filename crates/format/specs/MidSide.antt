@@ -19,7 +19,7 @@ floatOf z = Ieee.ofBits binary32 (codeOf 32 z)
 
 -- the 32 bits of a result; of a NaN 0x7FC00000
 unfoldable pub patternOf : Ieee.Float → ℕ
-patternOf x = cond (Ieee.isNan x) 0x7FC0_0000 (Ieee.toBits binary32 x)
+patternOf float = cond (Ieee.isNan float) 0x7FC0_0000 (Ieee.toBits binary32 float)
 
 -- left = mid + side; for float files the same sum, rounded once
 unfoldable pub left : SampleFormat → ℤ → ℤ → ℤ

@@ -38,7 +38,7 @@ numAt i n bytes = num 256 (from i n bytes)
 abbrev pub value : ℕ → ℕ → ℤ
 value width code = cond (ltb code (2 ^ (width - 1))) (pos code) (negℤ (pos (2 ^ width - code)))
 
--- the code of so many bits that means z: z itself, or for - n - 1 what is left of 2 ^ width
+-- the code of so many bits that means z: z itself, or where z is negative z + 2 ^ width
 abbrev pub codeOf : ℕ → ℤ → ℕ
 codeOf width (pos n) = n
 codeOf width (negsuc n) = 2 ^ width - suc n

@@ -33,11 +33,11 @@ checkFields fields =
 
 -- of a file of so many bytes; the last is 1: the data offset and size past its end
 unfoldable pub checkOffsets : Fields → ℕ → Checked
-checkOffsets fields size =
+checkOffsets fields fileSize =
     refuse (ltb (fields .table) 120) TableOffset  -- 13
     then refuse (ltb (fields .start) (fields .table)) DataOffset  -- 14
     then refuse (not (eqb (fields .start - fields .table) (4 * (groupsOf (fields .frames) + 1)))) TableLength  -- 15
-    then refuse (ltb size (fields .start + fields .size)) TooShort  -- 1
+    then refuse (ltb fileSize (fields .start + fields .size)) TooShort  -- 1
 
 -- group g's end is past the data size, before its start, or under 80 × channels after it
 unfoldable pub badEntry : List ℕ → Fields → ℕ → Bool

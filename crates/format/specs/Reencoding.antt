@@ -56,7 +56,8 @@ unfoldable pub reencodedBlock : ℕ → List ℕ → List ℤ → List ℕ
 reencodedBlock depth block xs =
     take 4 block
     ++ (baseFor (codingOf depth block) block xs
-    ++ (from 8 8 block ++ packing (widthOf (codingOf depth block)) (valuesFor depth block xs)))
+    ++ (from 8 8 block
+    ++ packing (widthOf (codingOf depth block)) (valuesFor depth block xs)))
 
 -- the first 1 is the header's, the second the values'
 unfoldable pub checkReencodeBlock : ℕ → List ℕ → List ℤ → Checked
@@ -81,10 +82,11 @@ activeIn channels group samples =
 unfoldable pub checkReencodeGroup : ℕ → ℕ → List ℕ → List ℤ → Checked
 checkReencodeGroup depth channels group samples =
     let chans = activeIn channels group samples in
+    let check : ℕ → Checked = λ c. checkReencodeBlock depth (fromBlock depth group c) (getD chans c []) in
     refuse (ltb (length group) 12) ShortGroup  -- 43
     then refuse (midBit group && not (eqb channels 2)) NotStereo  -- 34
     then refuse (midBit group && not (parity (unwoven channels samples))) ParityDiffers  -- 35
-    then inOrder (λ c. checkReencodeBlock depth (fromBlock depth group c) (getD chans c [])) channels
+    then inOrder check channels  -- 1, 3, 44, 45, 4, 1, 36
     then refuse (not (eqb (length (fromBlock depth group channels)) 0)) TemplateBytesLeft  -- 46
 
 unfoldable pub reencodedGroup : ℕ → ℕ → List ℕ → List ℤ → List ℕ
@@ -105,20 +107,20 @@ checkSame spec frames fields =
 -- of a template of so many bytes: table offset at least 120, data offset not before it,
 -- their distance 4 × (groups + 1), data ending within the template
 unfoldable pub checkBounds : Fields → ℕ → Checked
-checkBounds fields size =
+checkBounds fields templateSize =
     refuse (ltb (fields .table) 120) TemplateBounds  -- 41
     then refuse (ltb (fields .start) (fields .table)) TemplateBounds  -- 41
     then refuse (not (eqb (fields .start - fields .table) (4 * (groupsOf (fields .frames) + 1)))) TemplateBounds  -- 41
-    then refuse (ltb size (fields .start + fields .size)) TemplateBounds  -- 41
+    then refuse (ltb templateSize (fields .start + fields .size)) TemplateBounds  -- 41
 
 -- offsets not rising from 0 to the data size
 unfoldable pub checkRising : List ℕ → Fields → Checked
 checkRising template fields =
     let groups = groupsOf (fields .frames) in
-    let falls : ℕ → Bool = λ k. leb (entry template fields (k + 1)) (entry template fields k) in
+    let notRising : ℕ → Bool = λ k. leb (entry template fields (k + 1)) (entry template fields k) in
     refuse (not (eqb (entry template fields 0) 0)) TemplateOffsets  -- 42
     then refuse (not (eqb (entry template fields groups) (fields .size))) TemplateOffsets  -- 42
-    then refuse (anyBelow falls groups) TemplateOffsets  -- 42
+    then refuse (anyBelow notRising groups) TemplateOffsets  -- 42
 
 -- 1 (under 120 bytes), 2, 40, 41, 42
 unfoldable pub checkTemplate : PcmSpec → List ℤ → List ℕ → Checked
@@ -139,12 +141,13 @@ unfoldable pub checkReencode : PcmSpec → List ℤ → List ℕ → Checked
 checkReencode spec samples template =
     let fields = fieldsOf template in
     let channels = fields .channels in
+    let old : ℕ → List ℕ = groupBytes template fields in
+    let new : ℕ → List ℤ = groupIn channels samples in
+    let check : ℕ → Checked = λ g. checkReencodeGroup (fields .depth) channels (old g) (new g) in
     checkReencoder spec  -- 30
     then checkSamples spec samples  -- 31 to 33
     then checkTemplate spec samples template  -- 1, 2, 40 to 42
-    then inOrder
-    (λ g. checkReencodeGroup (fields .depth) channels (groupBytes template fields g) (groupIn channels samples g))
-    (groupsOf (fields .frames))
+    then inOrder check (groupsOf (fields .frames))  -- 43, 34, 35, 1, 3, 44, 45, 4, 1, 36, 46
 
 -- the new file is as long as the template
 unfoldable pub checkReencodeInto : PcmSpec → List ℤ → List ℕ → ℕ → Checked
@@ -157,10 +160,11 @@ unfoldable pub reencodedFile : List ℤ → List ℕ → List ℕ
 reencodedFile samples template =
     let fields = fieldsOf template in
     let channels = fields .channels in
+    let old : ℕ → List ℕ = groupBytes template fields in
+    let new : ℕ → List ℤ = groupIn channels samples in
+    let part : ℕ → List ℕ = λ g. reencodedGroup (fields .depth) channels (old g) (new g) in
     take (fields .start) template
-    ++ (joined
-    (λ g. reencodedGroup (fields .depth) channels (groupBytes template fields g) (groupIn channels samples g))
-    (groupsOf (fields .frames))
+    ++ (joined part (groupsOf (fields .frames))
     ++ drop (fields .start + fields .size) template)
 
 -- the answer, and what the lent bytes then hold

@@ -43,11 +43,11 @@ within depth z = leZ (lowest depth) z && leZ z (highest depth)
 
 -- depth 8, 16, 24, 32
 unfoldable pub depthWord : ℕ → DepthWord
-depthWord bits =
-    cond (eqb bits 8) (Known Eight)
-    (cond (eqb bits 16) (Known Sixteen)
-    (cond (eqb bits 24) (Known TwentyFour)
-    (cond (eqb bits 32) (Known ThirtyTwo) Unknown)))
+depthWord word =
+    cond (eqb word 8) (Known Eight)
+    (cond (eqb word 16) (Known Sixteen)
+    (cond (eqb word 24) (Known TwentyFour)
+    (cond (eqb word 32) (Known ThirtyTwo) Unknown)))
 
 -- whether a depth word names a depth; one that names none is refused by 11 (Opening)
 abbrev pub isKnown : DepthWord → Bool
@@ -60,10 +60,10 @@ orWidest (Known depth) = depth
 orWidest Unknown = ThirtyTwo
 
 unfoldable pub isDepth : ℕ → Bool
-isDepth bits = isKnown (depthWord bits)
+isDepth word = isKnown (depthWord word)
 
 unfoldable pub depthOf : ℕ → Depth
-depthOf bits = orWidest (depthWord bits)
+depthOf word = orWidest (depthWord word)
 
 -- ---- frames and samples
 
@@ -72,20 +72,19 @@ unfoldable pub active : Frames → ℕ → ℕ
 active frames g = min 512 (frames .0 - 512 * g)
 
 -- samples are frames times channels
-
 abbrev pub samplesIn : Frames → ℕ → Samples
 samplesIn frames channels = record { 0 = frames .0 * channels }
 
 -- over 4,294,967,295 frames
 abbrev pub checkFrameCount : ℕ → Checked
-checkFrameCount frames = refuse (ltb 4294967295 frames) TooManyFrames  -- 33
+checkFrameCount n = refuse (ltb 4294967295 n) TooManyFrames  -- 33
 
 -- and back: no frames without a channel, only whole ones, and at most 4,294,967,295
 unfoldable pub framesIn : Samples → ℕ → Framed
-framesIn samples channels =
-    let n = samples .0 / channels in
-    let counted = cond (ltb 4294967295 n) TooMany (Whole (record { 0 = n })) in
-    cond (eqb channels 0) Incomplete (cond (eqb (samples .0 % channels) 0) counted Incomplete)
+framesIn count channels =
+    let n = count .0 / channels in
+    let whole = cond (ltb 4294967295 n) TooMany (Whole (record { 0 = n })) in
+    cond (eqb channels 0) Incomplete (cond (eqb (count .0 % channels) 0) whole Incomplete)
 
 -- what is no whole number of frames is refused by its number
 abbrev pub framedAs : Framed → Checked
@@ -95,12 +94,12 @@ framedAs TooMany = No TooManyFrames  -- 33
 
 -- the same, by checks: 31 without a channel, or where a frame is not whole; then 33
 unfoldable pub checkFramed : Samples → ℕ → Checked
-checkFramed samples channels =
+checkFramed count channels =
     refuse (eqb channels 0) IncompleteFrame  -- 31
-    then refuse (not (eqb (samples .0 % channels) 0)) IncompleteFrame  -- 31
-    then checkFrameCount (samples .0 / channels)  -- 33
+    then refuse (not (eqb (count .0 % channels) 0)) IncompleteFrame  -- 31
+    then checkFrameCount (count .0 / channels)  -- 33
 
 -- what is promised of so many samples in frames: how many they are, and by what they are refused
 abbrev pub Framing : Samples → ℕ → Framed → Type 0
-Framing samples channels framed =
-    (framed ≡ framesIn samples channels) × (framedAs framed ≡ checkFramed samples channels)
+Framing count channels framed =
+    (framed ≡ framesIn count channels) × (framedAs framed ≡ checkFramed count channels)

@@ -36,29 +36,29 @@ stepCount file g =
     samplesIn (record { 0 = active (fields .frames) g }) (fields .channels)
 
 -- a group is left
-unfoldable pub isLeft : List ℕ → ℕ → Bool
-isLeft file g = ltb g (groupsOf (fieldsOf file .frames))
+unfoldable pub hasGroup : List ℕ → ℕ → Bool
+hasGroup file g = ltb g (groupsOf (fieldsOf file .frames))
 
 -- with 50 after 22
 unfoldable pub checkStepInto : List ℕ → ℕ → ℕ → Checked
 checkStepInto file g room =
-    checkStep file g
+    checkStep file g  -- 1, 3, 20, 21, 4, 1, 22
     then refuse (ltb room (stepCount file g .0)) OutputTooShort  -- 50
 
 -- a step on bytes that don't open refuses as opening does
 unfoldable pub checkWalk : List ℕ → ℕ → ℕ → Checked
 checkWalk file g room =
     let checks = checkStepInto file g room in
-    checkOpen file
-    then cond (isLeft file g) checks Fine
+    checkOpen file  -- 1, 2, 10 to 15, 1, 16 to 19, 3
+    then cond (hasGroup file g) checks Fine
 
 -- a step after the last group says done
 unfoldable pub stepOf : List ℕ → ℕ → ℕ → Answer
-stepOf file g room = answered (checkWalk file g room) (cond (isLeft file g) (Read (stepCount file g)) Finished)
+stepOf file g room = answered (checkWalk file g room) (cond (hasGroup file g) (Read (stepCount file g)) Finished)
 
 -- a refused step doesn't advance: how many groups a step goes past that answers so
 abbrev pub groupsPassed : Outcome → ℕ
-groupsPassed (Read samples) = 1
+groupsPassed (Read count) = 1
 groupsPassed Finished = 0
 groupsPassed (Refused refusal) = 0
 groupsPassed (Opened header) = 0
@@ -71,4 +71,4 @@ nextOf file g room = g + groupsPassed (stepOf file g room .outcome)
 unfoldable pub stepInto : List ℕ → ℕ → List ℤ → List ℤ
 stepInto file g lent =
     let samples = stepSamples file g in
-    filled (checkWalk file g (length lent)) (cond (isLeft file g) samples []) lent
+    filled (checkWalk file g (length lent)) (cond (hasGroup file g) samples []) lent

@@ -88,9 +88,6 @@ impl Depth {
     }
 }
 
-// A group's frames: a block's samples, of one channel.
-const FRAMES_PER_GROUP: u32 = Depth::SAMPLES_PER_BLOCK as u32;
-
 // Marks and headers count frames.
 pub struct Frames(pub u32);
 
@@ -105,6 +102,9 @@ pub enum Framed {
 }
 
 impl Frames {
+    // A group's frames: a block's samples, of one channel.
+    const PER_GROUP: u32 = Depth::SAMPLES_PER_BLOCK as u32;
+
     pub fn samples(self, channels: u16) -> Samples
         ensures { λ r. ⌜ r ≡ samplesIn self channels ⌝ }
     {
@@ -115,8 +115,8 @@ impl Frames {
     pub fn groups(self) -> u32
         ensures { λ r. ⌜ (r ≡ groupsOf self) × (r ≤ 8388608) ⌝ }
     {
-        let whole = self.0 / FRAMES_PER_GROUP;
-        if self.0 % FRAMES_PER_GROUP == 0 {
+        let whole = self.0 / Frames::PER_GROUP;
+        if self.0 % Frames::PER_GROUP == 0 {
             whole
         } else {
             whole + 1
@@ -127,16 +127,16 @@ impl Frames {
     pub fn active(self, g: u32) -> Frames
         ensures { λ r. ⌜ (r .0 ≡ active self g) × (r .0 ≤ 512) ⌝ }
     {
-        let before = FRAMES_PER_GROUP as u64 * g as u64;
+        let before = Frames::PER_GROUP as u64 * g as u64;
         let all = self.0 as u64;
         if all <= before {
             return Frames(0);
         }
         let left = all - before;
-        if left < FRAMES_PER_GROUP as u64 {
+        if left < Frames::PER_GROUP as u64 {
             return Frames(left as u32);
         }
-        Frames(FRAMES_PER_GROUP)
+        Frames(Frames::PER_GROUP)
     }
 }
 

@@ -11,7 +11,7 @@ use Rattle.format.specs.Refusals.{_then_}
 use Rattle.format.specs.Answers.{refusedBy, answered, filled}
 use Rattle.format.specs.Opening.{checkOpen, headerOf, openOf}
 use Rattle.format.specs.Decoding.{checkDecode, decodedOf, decodedCount, checkRoom, decodeOf, decodeInto}
-use Rattle.format.specs.Walking.{stepSamples, stepCount, isLeft, checkWalk, stepOf, stepInto}
+use Rattle.format.specs.Walking.{stepSamples, stepCount, hasGroup, checkWalk, stepOf, stepInto}
 use Rattle.format.specs.Encoding.{encodedFile, checkEncode, checkEncodeInto, encodeOf, encodeInto}
 use Rattle.format.specs.Reencoding.{reencodedFile, checkReencode, checkReencodeInto, reencodeOf, reencodeInto}
 use Rattle.format.specs.Boundary.{samplesFrom, sampleBytes, modeOf, checkMode, checkBytes, result, hostDecode, hostDecodeInto, checkHostEncode, hostEncode, hostEncodeInto, checkHostReencode, hostReencode, hostReencodeInto}
@@ -55,7 +55,7 @@ refused-exactly =
       opens = λ s r x e. exactly-no (checkOpen s) (Opened (headerOf s)) refl x r e;
       decodes = λ s lent after r x e. exactly-no (checkDecode s then checkRoom s (length lent)) (Read (decodedCount s)) refl x r (e .0);
       steps = λ s g lent after r x e.
-          exactly-no (checkWalk s g (length lent)) (cond (isLeft s g) (Read (stepCount s g)) Finished) (left-or-done (isLeft s g) (stepCount s g)) x r (e .0);
+          exactly-no (checkWalk s g (length lent)) (cond (hasGroup s g) (Read (stepCount s g)) Finished) (left-or-done (hasGroup s g) (stepCount s g)) x r (e .0);
       encodes = λ p mode s lent after r x e. exactly-no (checkEncodeInto p mode s (length lent)) (Wrote (length (encodedFile p mode s))) refl x r (e .0);
       reencodes = λ p s t lent after r x e. exactly-no (checkReencodeInto p s t (length lent)) (Wrote (length t)) refl x r (e .0);
     }
@@ -155,8 +155,8 @@ decode-keeps s lent x after d = refused-keeps (checkDecode s then checkRoom s (l
 step-keeps : (s : List ℕ) (g : ℕ) (lent : List ℤ) → Keeps (Steps s g lent) lent
 unfolding stepOf stepInto
 step-keeps s g lent x after d =
-    refused-keeps (checkWalk s g (length lent)) (cond (isLeft s g) (Read (stepCount s g)) Finished) x (cond (isLeft s g) (stepSamples s g) []) lent after
-    (left-or-done (isLeft s g) (stepCount s g)) (d .0) (d .1)
+    refused-keeps (checkWalk s g (length lent)) (cond (hasGroup s g) (Read (stepCount s g)) Finished) x (cond (hasGroup s g) (stepSamples s g) []) lent after
+    (left-or-done (hasGroup s g) (stepCount s g)) (d .0) (d .1)
 
 encode-keeps : (p : PcmSpec) (mode : StereoMode) (s : List ℤ) (lent : List ℕ) → Keeps (Encodes p mode s lent) lent
 unfolding encodeOf encodeInto

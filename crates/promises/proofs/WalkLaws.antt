@@ -17,7 +17,7 @@ use Rattle.format.specs.Answers.{answeredBy, refusedBy, answered, filled, read}
 use Rattle.format.specs.Opening.{formatOf, checkOpen}
 use Rattle.format.specs.Units.{active}
 use Rattle.format.specs.Decoding.{checkDecode, decodedOf}
-use Rattle.format.specs.Walking.{checkStep, stepSamples, stepCount, isLeft, checkStepInto, checkWalk, stepOf, groupsPassed, nextOf, stepInto}
+use Rattle.format.specs.Walking.{checkStep, stepSamples, stepCount, hasGroup, checkStepInto, checkWalk, stepOf, groupsPassed, nextOf, stepInto}
 use Rattle.format.specs.Promises.{Steps, Advances}
 use Rattle.format.specs.declared.units.Samples.{Samples}
 use Rattle.format.specs.declared.refusals.Refusal.{Refusal}
@@ -48,26 +48,26 @@ steps-checked s = refl
 module _ (s : List ℕ) (g : ℕ) (lent after : List ℤ) (o : Outcome) (success : isRefused o ≡ false) (d : Steps s g lent (answeredBy o) after) where
   passes : checkWalk s g (length lent) ≡ Fine
   unfolding stepOf
-  passes = succeeds-fine (checkWalk s g (length lent)) (cond (isLeft s g) (Read (stepCount s g)) Finished) o success (d .0)
+  passes = succeeds-fine (checkWalk s g (length lent)) (cond (hasGroup s g) (Read (stepCount s g)) Finished) o success (d .0)
 
   pub step-opens : checkOpen s ≡ Fine
   unfolding checkWalk
   step-opens = first-fine _ _ passes
 
-  says : (b : Bool) → isLeft s g ≡ b → o ≡ cond b (Read (stepCount s g)) Finished
+  says : (b : Bool) → hasGroup s g ≡ b → o ≡ cond b (Read (stepCount s g)) Finished
   unfolding stepOf
   says b e =
-      succeeds-as (checkWalk s g (length lent)) (cond (isLeft s g) (Read (stepCount s g)) Finished) o success (d .0) ∙ ap (λ (t : Bool). cond t (Read (stepCount s g)) Finished) e
+      succeeds-as (checkWalk s g (length lent)) (cond (hasGroup s g) (Read (stepCount s g)) Finished) o success (d .0) ∙ ap (λ (t : Bool). cond t (Read (stepCount s g)) Finished) e
 
-  leaves : (b : Bool) → isLeft s g ≡ b → after ≡ over (cond b (stepSamples s g) []) lent
+  leaves : (b : Bool) → hasGroup s g ≡ b → after ≡ over (cond b (stepSamples s g) []) lent
   unfolding stepInto
   leaves b e = d .1 ∙ ap₂ (λ (c : Checked) (t : Bool). filled c (cond t (stepSamples s g) []) lent) passes e
 
 -- one that says done: no group is left
-pub step-done : (s : List ℕ) (g : ℕ) (lent after : List ℤ) → Steps s g lent (answeredBy Finished) after → isLeft s g ≡ false
-step-done s g lent after d = by (isLeft s g) refl
+pub step-done : (s : List ℕ) (g : ℕ) (lent after : List ℤ) → Steps s g lent (answeredBy Finished) after → hasGroup s g ≡ false
+step-done s g lent after d = by (hasGroup s g) refl
   where
-    by : (b : Bool) → isLeft s g ≡ b → b ≡ false
+    by : (b : Bool) → hasGroup s g ≡ b → b ≡ false
     by false e = refl
     by true e = let q : Finished ≡ Read (stepCount s g) = says s g lent after Finished refl d true e in cc
 
@@ -79,15 +79,15 @@ module _ (s : List ℕ) (g : ℕ) (lent after : List ℤ) (n : ℕ) (d : Steps s
   abbrev o : Outcome
   o = Read (record { 0 = n })
 
-  left : isLeft s g ≡ true
-  left = by (isLeft s g) refl
+  left : hasGroup s g ≡ true
+  left = by (hasGroup s g) refl
     where
-      by : (b : Bool) → isLeft s g ≡ b → b ≡ true
+      by : (b : Bool) → hasGroup s g ≡ b → b ≡ true
       by true e = refl
       by false e = let q : o ≡ Finished = says s g lent after o refl d false e in cc
 
   pub step-below : g < groupsOf (h .frames)
-  unfolding isLeft
+  unfolding hasGroup
   step-below = ltb-true g (groupsOf (h .frames)) left
 
   pub step-checked : checkStep s g ≡ Fine
@@ -119,14 +119,14 @@ unfolding nextOf
 step-moves s g lent after r next d = d .1 ∙ ap (λ (a : Answer). g + groupsPassed (a .outcome)) (sym (d .0 .0))
 
 -- ---- from the checks: where they pass and a group is left, the step reads it
-pub says-read : (s : List ℕ) (g room : ℕ) → checkWalk s g room ≡ Fine → isLeft s g ≡ true → stepOf s g room ≡ read (stepCount s g .0)
+pub says-read : (s : List ℕ) (g room : ℕ) → checkWalk s g room ≡ Fine → hasGroup s g ≡ true → stepOf s g room ≡ read (stepCount s g .0)
 unfolding stepOf
 says-read s g room = ap₂ (λ (c : Checked) (b : Bool). answered c (cond b (Read (stepCount s g)) Finished))
 
 -- and otherwise nothing
 pub reads-or-ends : (s : List ℕ) (g room : ℕ) → (stepOf s g room ≡ read (stepCount s g .0)) ⊎ ((n : ℕ) → stepOf s g room ≡ read n → ⊥)
 unfolding stepOf
-reads-or-ends s g room = by (checkWalk s g room) (isLeft s g)
+reads-or-ends s g room = by (checkWalk s g room) (hasGroup s g)
   where
     ends : (a : Answer) → groupsPassed (a .outcome) ≡ 0 → (n : ℕ) → a ≡ read n → ⊥
     ends a none n e = let q = ap (λ (x : Answer). groupsPassed (x .outcome)) e in omega arith
@@ -137,7 +137,7 @@ reads-or-ends s g room = by (checkWalk s g room) (isLeft s g)
     by (No x) b = inr (ends (refusedBy x) refl)
 
 -- where none is left, the step says done and leaves all as it was
-module _ (s : List ℕ) (g : ℕ) (lent after : List ℤ) (r : Answer) (opens : checkOpen s ≡ Fine) (none : isLeft s g ≡ false) (d : Steps s g lent r after) where
+module _ (s : List ℕ) (g : ℕ) (lent after : List ℤ) (r : Answer) (opens : checkOpen s ≡ Fine) (none : hasGroup s g ≡ false) (d : Steps s g lent r after) where
   pub says-done : r ≡ answeredBy Finished
   unfolding stepOf checkWalk _then_
   says-done = d .0 ∙ ap₂ (λ (o : Checked) (b : Bool). answered (o then cond b (checkStepInto s g (length lent)) Fine) (cond b (Read (stepCount s g)) Finished)) opens none
@@ -158,7 +158,7 @@ room-passes c room m x l = ap (λ (k : Checked). c then k) (pass _ x (le-ltb roo
 -- a refusal that is not for want of room is said in any room
 pub any-room : (s : List ℕ) (g room room′ : ℕ) (x : Refusal) → (x ≡ OutputTooShort → ⊥) → checkWalk s g room ≡ No x → checkWalk s g room′ ≡ No x
 unfolding checkWalk checkStepInto _then_ refuse
-any-room s g room room′ x other = by (checkOpen s) (isLeft s g) (checkStep s g) (ltb room (stepCount s g .0)) (ltb room′ (stepCount s g .0))
+any-room s g room room′ x other = by (checkOpen s) (hasGroup s g) (checkStep s g) (ltb room (stepCount s g .0)) (ltb room′ (stepCount s g .0))
   where
     by : (o : Checked) (b : Bool) (c : Checked) (t t′ : Bool) → (o then cond b (c then refuse t OutputTooShort) Fine) ≡ No x → (o then cond b (c then refuse t′ OutputTooShort) Fine) ≡ No x
     by (No r) b c t t′ e = e

@@ -14,7 +14,7 @@ use Rattle.format.specs.Refusals.{_then_, inOrder}
 use Rattle.format.specs.Answers.{answeredBy, refusedBy, read}
 use Rattle.format.specs.Opening.{checkOpen, headerOf, openOf}
 use Rattle.format.specs.Decoding.{checkDecode, decodedOf, decodedCount, checkRoom}
-use Rattle.format.specs.Walking.{checkStep, stepSamples, stepCount, isLeft, checkStepInto, checkWalk, stepOf, groupsPassed, nextOf, stepInto}
+use Rattle.format.specs.Walking.{checkStep, stepSamples, stepCount, hasGroup, checkStepInto, checkWalk, stepOf, groupsPassed, nextOf, stepInto}
 use Rattle.format.specs.Promises.{Opens, Decodes, Steps, Advances}
 use Rattle.format.specs.declared.refusals.Refusal.{Refusal}
 use Rattle.format.specs.declared.refusals.Refusal.the-variants.{OutputTooShort}
@@ -139,17 +139,17 @@ module _ (s : List ℕ) (lent : ℕ → List ℤ) (w : WholeWalk s lent) where
       by (suc g) e = let l : g < k = omega arith in step-below s g (lent g) (w .after g) (w .count g) (w .reads g l .0)
 
   -- the last reads nothing: where its checks pass, no group is left
-  not-left : last-check ≡ Fine → isLeft s k ≡ false
-  not-left fine = by (isLeft s k) refl
+  not-left : last-check ≡ Fine → hasGroup s k ≡ false
+  not-left fine = by (hasGroup s k) refl
     where
-      by : (b : Bool) → isLeft s k ≡ b → b ≡ false
+      by : (b : Bool) → hasGroup s k ≡ b → b ≡ false
       by false e = refl
       by true e = absurd (w .ends (stepCount s k .0) (w .last .0 .0 ∙ says-read s k (length (lent k)) fine e))
 
   -- then all were read
-  module _ (none : isLeft s k ≡ false) where
+  module _ (none : hasGroup s k ≡ false) where
     all-steps : k ≡ groups
-    unfolding isLeft
+    unfolding hasGroup
     all-steps = omega (arith, steps-within, ltb-false k groups none)
 
     all-fine : inOrder (checkStep s) groups ≡ Fine
@@ -170,9 +170,9 @@ module _ (s : List ℕ) (lent : ℕ → List ℤ) (w : WholeWalk s lent) where
   -- with room for each group, the whole decode refuses as the last step does, and else passes
   module _ (room : EnoughRoom s lent) where
     -- a group is left: its checks alone are the last step's, and refuse
-    module _ (opens : checkOpen s ≡ Fine) (left : isLeft s k ≡ true) where
+    module _ (opens : checkOpen s ≡ Fine) (left : hasGroup s k ≡ true) where
       below : k < groups
-      unfolding isLeft
+      unfolding hasGroup
       below = ltb-true k groups left
 
       only-step : checkStepInto s k (length (lent k)) ≡ checkStep s k
@@ -192,9 +192,9 @@ module _ (s : List ℕ) (lent : ℕ → List ℤ) (w : WholeWalk s lent) where
 
     same-checks : checkDecode s ≡ last-check
     unfolding checkWalk
-    same-checks = steps-checked s ∙ (refl then-same by (isLeft s k) refl)
+    same-checks = steps-checked s ∙ (refl then-same by (hasGroup s k) refl)
       where
-        by : (b : Bool) → isLeft s k ≡ b → checkOpen s ≡ Fine → inOrder (checkStep s) groups ≡ cond b (checkStepInto s k (length (lent k))) Fine
+        by : (b : Bool) → hasGroup s k ≡ b → checkOpen s ≡ Fine → inOrder (checkStep s) groups ≡ cond b (checkStepInto s k (length (lent k))) Fine
         by false e opens = all-fine e
         by true e opens = refuses-there opens e ∙ sym (only-step opens e)
 
@@ -254,7 +254,7 @@ no-step s g lent after x r next e d =
 
 -- and one where no group is left
 done-step : (s : List ℕ) (g : ℕ) (lent after : List ℤ) (r : Answer) (next : ℕ)
-    → checkOpen s ≡ Fine → isLeft s g ≡ false → Advances s g lent r after next → (r ≡ done) × (after ≡ lent) × (next ≡ g)
+    → checkOpen s ≡ Fine → hasGroup s g ≡ false → Advances s g lent r after next → (r ≡ done) × (after ≡ lent) × (next ≡ g)
 done-step s g lent after r next opens none d =
     let q = says-done s g lent after r opens none (d .0) in
     let e = step-moves s g lent after done next (rw q at d) in
@@ -273,14 +273,14 @@ module _ (s : List ℕ) (h : Header) (e : Opens s (answeredBy (Opened h))) where
       let p : h ≡ headerOf s = cc in
       ap (λ (x : Header). x .groups) p
 
-  left-none : (g : ℕ) → Exactly (isLeft s g ≡ false) (h .groups ≤ g)
-  unfolding isLeft
+  left-none : (g : ℕ) → Exactly (hasGroup s g ≡ false) (h .groups ≤ g)
+  unfolding hasGroup
   left-none g = (λ q. omega (arith, groups-there, ltb-false g (groupsOf (fieldsOf s .frames)) q), λ l. le-ltb g (groupsOf (fieldsOf s .frames)) (omega (arith, groups-there)))
 
 -- and that don't
 unopened-refuses : (s : List ℕ) (g room : ℕ) (x : Refusal) → Opens s (refusedBy x) → checkWalk s g room ≡ No x
 unfolding checkWalk _then_
-unopened-refuses s g room x e = ap (λ (o : Checked). o then cond (isLeft s g) (checkStepInto s g room) Fine) (refused-exactly .opens s (refusedBy x) x e .0 refl)
+unopened-refuses s g room x e = ap (λ (o : Checked). o then cond (hasGroup s g) (checkStepInto s g room) Fine) (refused-exactly .opens s (refusedBy x) x e .0 refl)
 
 pub each-step : EachStep
 each-step =

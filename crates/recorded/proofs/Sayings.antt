@@ -1,5 +1,5 @@
 -- What answers say, case by case; and each way out of the comparison with what was recorded.
-use Prim.Native.Nat.{ℕ, _*_, _/_, _%_, _^_, _<_, _≤_}
+use Prim.Native.Nat.{ℕ, _-_, _*_, _/_, _%_, _^_, _<_, _≤_}
 use mathlib.Core.Path.{_≡_, refl, sym, ap, ap₂, _∙_}
 use mathlib.Core.Bool.{Bool, false}
 use mathlib.Core.List.{List, [], _∷_}
@@ -25,7 +25,7 @@ use Rattle.format.specs.declared.answers.Outcome.the-variants.{Opened, Read, Fi
 use Rattle.recorded.specs.declared.answers.Recorded.{Recorded}
 use Rattle.recorded.specs.declared.answers.Said.{Said}
 use Rattle.recorded.specs.Room.{isKept, sumOf}
-use Rattle.recorded.specs.Said.{saidLength, saidNumber, wordOf, saidRefused, saidSamples, saidBy, saidByHost, isRecorded}
+use Rattle.recorded.specs.Said.{saidLength, saidNumber, wordOf, saidRefused, saidSamples, saidBy, refusalOf, saidByHost, isRecorded}
 
 -- ---- a bits word: the lowest 16 of its 32 bits
 
@@ -120,9 +120,9 @@ module _ (n : ℕ) (x : Said) where
   unfolding saidByHost
   length-says word h p = p ∙ rw (lt-ltb n (2 ^ 63) h)
 
-pub number-says : (n word : ℕ) → 9223372036854775808 ≤ n → saidNumber (n % 4294967296) word ≡ saidByHost n word
+pub number-says : (n word refusal : ℕ) → 9223372036854775808 ≤ n → refusal ≡ refusalOf (n - 9223372036854775808) → saidNumber refusal word ≡ saidByHost n word
 unfolding saidByHost
-number-says n word h = rw (le-ltb n (2 ^ 63) h)
+number-says n word refusal h e = rw (le-ltb n (2 ^ 63) h, e)
 
 -- ---- whether it was recorded
 

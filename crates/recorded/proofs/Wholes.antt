@@ -13,7 +13,7 @@ use Rattle.laws.proofs.Parts.{length-tab}
 use Rattle.lent.proofs.Laws.{length-lent}
 use Rattle.lent.proofs.Outcome.{bytes-over}
 use Rattle.recorded.specs.Room.{markOf, marked, spoiledAt}
-use Rattle.recorded.specs.Bytes.{markedBytes, spoiledBytes, Answers}
+use Rattle.recorded.specs.Bytes.{markedBytes, spoiledBytes, isAnswered}
 use Rattle.recorded.specs.declared.answers.Recorded.{Recorded}
 use Rattle.recorded.specs.declared.answers.Said.{Said}
 
@@ -37,6 +37,6 @@ module _ (b d : List ℕ) (hb : Below 256 b) (hd : Below 256 d) (rest : drop (le
 
 -- the room is filled, a call is asked, and its answer is judged
 pub asked-bytes : (told : List ℕ → Said) (put : List ℕ → List ℕ) (room lent written after : List ℕ) (said : Said) (spoiled : ℕ) (want : Recorded) (same : Bool)
-    → lent ≡ markedBytes room → said ≡ told lent → written ≡ put lent → Answers said written spoiled want same after
-    → Answers (told (markedBytes room)) (put (markedBytes room)) spoiled want same after
-asked-bytes told put room lent written after said spoiled want same e f g a = (a .0 ∙ rw (f, e) refl, a .1 ∙ rw (g, e) refl)
+    → lent ≡ markedBytes room → said ≡ told lent → written ≡ put lent → (same ≡ isAnswered said written spoiled want) × (after ≡ spoiledBytes spoiled written)
+    → (same ≡ isAnswered (told (markedBytes room)) (put (markedBytes room)) spoiled want) × (after ≡ spoiledBytes spoiled (put (markedBytes room)))
+asked-bytes told put room lent written after said spoiled want same e f g a = (a .0 ∙ rw (g, f, e) refl, a .1 ∙ rw (g, e) refl)

@@ -1,6 +1,5 @@
 -- A room of bytes, four to a sample: filled, and changed at a place. What lies behind its last whole sample stays.
 use Prim.Native.Nat.{ℕ, _/_}
-use mathlib.Core.Path.{_≡_}
 use mathlib.Core.Bool.{Bool}
 use mathlib.Core.List.{List}
 use lib.ListN.{length}
@@ -19,8 +18,6 @@ markedBytes room = over (sampleBytes (marked (length room / 4))) room
 unfoldable pub spoiledBytes : ℕ → List ℕ → List ℕ
 spoiledBytes place room = over (sampleBytes (spoiledAt place (samplesFrom room))) room
 
--- a call said this and wrote that into the room: then the room is changed at a place, which leaves `after`,
--- and compared with what was recorded
-abbrev pub Answers : Said → List ℕ → ℕ → Recorded → Bool → List ℕ → Type 0
-Answers said written spoiled want same after =
-    (same ≡ isRecorded said want (samplesFrom after)) × (after ≡ spoiledBytes spoiled written)
+-- a call said this and wrote that into the room, which is then changed at a place: that is as recorded
+abbrev pub isAnswered : Said → List ℕ → ℕ → Recorded → Bool
+isAnswered said written spoiled want = isRecorded said want (samplesFrom (spoiledBytes spoiled written))

@@ -1,5 +1,5 @@
 -- What an answer, or the number that the host boundary returns, says; and when that is as recorded.
-use Prim.Native.Nat.{ℕ, _-_, _*_, _/_, _%_, _^_}
+use Prim.Native.Nat.{ℕ, _-_, _*_, _/_, _^_}
 use mathlib.Core.Bool.{Bool, _&&_, cond}
 use mathlib.Core.List.{List}
 use lib.ListN.{length, take}
@@ -89,10 +89,15 @@ saidBy Finished = saidNumber 255 0
 saidBy (Wrote bytes) = saidLength bytes
 saidBy (Refused r) = saidRefused r
 
+-- the number of a refusal; from 2 ^ 32 on, a number that no refusal has
+abbrev pub refusalOf : ℕ → ℕ
+refusalOf n = cond (ltb n (2 ^ 32)) n (2 ^ 32 - 1)
+
 -- what the host boundary's number says: below 2 ^ 63 a length, otherwise 2 ^ 63 plus a refusal's number. It tells no
 -- bits word: one is given
 unfoldable pub saidByHost : ℕ → ℕ → Said
-saidByHost result word = cond (ltb result (2 ^ 63)) (saidLength result) (saidNumber (result % 2 ^ 32) word)
+saidByHost result word =
+    cond (ltb result (2 ^ 63)) (saidLength result) (saidNumber (refusalOf (result - 2 ^ 63)) word)
 
 -- ---- what was recorded
 
@@ -101,7 +106,8 @@ abbrev pub recordedRefusal : ℕ → ℕ → Recorded
 recordedRefusal refusal word = record { number = refusal; bits = word; length = 0; sum = 0 }
 
 -- that was recorded: the number, the bits word and the length are the same, the room has so many samples, of 4 bytes,
--- their sum is the recorded one, and behind them it holds what it was filled with
+-- their sum is the recorded one, and behind them it holds what it was filled with. Of a file whose length is no
+-- multiple of 4 the last 1 to 3 bytes are not summed
 unfoldable pub isRecorded : Said → Recorded → List ℤ → Bool
 isRecorded said want room =
     let n = want .length / 4 in

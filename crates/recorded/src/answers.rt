@@ -12,7 +12,7 @@ use lent::Container;
 ghost use mathlib.Core.Path.{_≡_};
 ghost use Rattle.format.specs.Numbers.{codeOf};
 ghost use Rattle.lent.specs.Lent.{lentOf};
-ghost use Rattle.recorded.specs.Said.{saidLength, saidRefused, saidSamples, saidBy, saidByHost};
+ghost use Rattle.recorded.specs.Said.{saidLength, saidRefused, saidSamples, saidBy, refusalOf, saidByHost};
 ghost use Rattle.recorded.specs.Said.{recordedRefusal, isRecorded, verdictOf};
 
 // The number of a refusal, and 4's bits word; 0 where the call was accepted: then how many bytes of its room it wrote,
@@ -137,6 +137,16 @@ pub fn of_answer(answer: Answer) -> Said
     }
 }
 
+fn refusal_number(n: u64) -> u32
+    ensures { λ r. ⌜ r ≡ refusalOf n ⌝ }
+{
+    if n < 0x1_0000_0000 {
+        n as u32
+    } else {
+        u32::MAX
+    }
+}
+
 // The boundary tells no bits word: the recorded one is not asked for.
 pub fn of_result(result: u64, bits: u16) -> Said
     ensures { λ r. ⌜ r ≡ saidByHost result bits ⌝ }
@@ -145,7 +155,7 @@ pub fn of_result(result: u64, bits: u16) -> Said
         return accepted(result);
     }
     Said {
-        number: (result % 0x1_0000_0000) as u32,
+        number: refusal_number(result - 0x8000_0000_0000_0000),
         bits,
         length: 0,
     }

@@ -6,7 +6,7 @@ use crate::room::fill;
 use crate::room::spoil;
 use lent::Container;
 ghost use mathlib.Core.Path.{_≡_};
-ghost use Rattle.recorded.specs.Bytes.{markedBytes, spoiledBytes, Answers};
+ghost use Rattle.recorded.specs.Bytes.{markedBytes, spoiledBytes, isAnswered};
 
 pub fn fill_bytes(room: &mut [u8])
     ensures { λ _. ⌜ now (room .exit) ≡ markedBytes (now (room .entry)) ⌝ }
@@ -22,7 +22,8 @@ fn spoil_bytes(room: &mut [u8], at: usize)
 
 // Whether a call answered as recorded, by what it said and what it wrote, after the room was changed at a place.
 pub fn is_answered(said: Said, spoiled: usize, room: &mut [u8], want: Recorded) -> bool
-    ensures { λ r. ⌜ Answers said (now (room .entry)) spoiled want r (now (room .exit)) ⌝ }
+    ensures says { λ r. ⌜ r ≡ isAnswered said (now (room .entry)) spoiled want ⌝ }
+    ensures leaves { λ _. ⌜ now (room .exit) ≡ spoiledBytes spoiled (now (room .entry)) ⌝ }
 {
     spoil_bytes(room, spoiled);
     is_recorded(said, want, Container::Bytes, &[], room)

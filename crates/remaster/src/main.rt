@@ -1,5 +1,4 @@
 // The main job on the file that the first argument names: open, decode, re-encode with the file as template, compare.
-mod halving;
 mod job;
 mod text;
 

@@ -8,11 +8,11 @@ use format::Header;
 use format::Outcome;
 use libc::STDIN_FILENO;
 ghost use mathlib.Core.Path.{_≡_};
-ghost use lib.ListN.{length};
+ghost use lib.ListN.{replicate};
 
 // One byte more than is opened.
 fn buffer() -> [u8; 65537]
-    ensures { λ r. ⌜ 65537 ≡ length r ⌝ }
+    ensures { λ r. ⌜ r ≡ replicate 65537 0 ⌝ }
 {
     [0; 65537]
 }

@@ -17,7 +17,7 @@ use Rattle.format.specs.Answers.{answered}
 use Rattle.format.specs.Opening.{formatOf, checkOpen}
 use Rattle.format.specs.Decoding.{checkGroup, channelsOf, woven, groupSamples}
 use Rattle.format.specs.Units.{samplesIn, active}
-use Rattle.format.specs.Walking.{checkStep, stepSamples, stepCount, isLeft, checkStepInto, checkWalk, stepOf, groupsPassed, nextOf, stepInto}
+use Rattle.format.specs.Walking.{checkStep, stepSamples, stepCount, hasGroup, checkStepInto, checkWalk, stepOf, groupsPassed, nextOf, stepInto}
 use Rattle.format.specs.declared.units.Frames.{Frames}
 use Rattle.format.specs.declared.refusals.Refusal.{Refusal}
 use Rattle.format.specs.declared.refusals.Refusal.the-variants.{OutputTooShort}
@@ -42,12 +42,12 @@ module _ (s : List ℕ) (g : ℕ) (h : Fields) (reads : h ≡ fieldsOf s) where
     last : groups ≡ groupsOf (fieldsOf s .frames)
     last = all ∙ ap (λ (x : Fields). groupsOf (x .frames)) reads
 
-    none-left : groups ≤ g → isLeft s g ≡ false
-    unfolding isLeft
+    none-left : groups ≤ g → hasGroup s g ≡ false
+    unfolding hasGroup
     none-left l = le-ltb g (groupsOf (fieldsOf s .frames)) (omega (arith, last))
 
-    one-left : g < groups → isLeft s g ≡ true
-    unfolding isLeft
+    one-left : g < groups → hasGroup s g ≡ true
+    unfolding hasGroup
     one-left l = lt-ltb g (groupsOf (fieldsOf s .frames)) (omega (arith, last))
 
   in-step : (n : Frames) (m : Samples) → n .0 ≡ active (h .frames) g → m ≡ samplesIn n (h .channels) → m ≡ stepCount s g
@@ -182,10 +182,10 @@ module _ (s : List ℕ) (g room n : ℕ) (a : Answer) (answers : a ≡ stepOf s 
 
   -- only past a group that is left
   pub next-fits : Below 256 s → g < 2 ^ 32 → g + n < 2 ^ 32
-  unfolding stepOf nextOf isLeft fieldsOf groupsOf
-  next-fits byte fits = let e = by (checkWalk s g room) (isLeft s g) refl in omega (arith, goes-on)
+  unfolding stepOf nextOf hasGroup fieldsOf groupsOf
+  next-fits byte fits = let e = by (checkWalk s g room) (hasGroup s g) refl in omega (arith, goes-on)
     where
-      by : (c : Checked) (b : Bool) → isLeft s g ≡ b → g + groupsPassed (answered c (cond b (Read (stepCount s g)) Finished) .outcome) < 2 ^ 32
+      by : (c : Checked) (b : Bool) → hasGroup s g ≡ b → g + groupsPassed (answered c (cond b (Read (stepCount s g)) Finished) .outcome) < 2 ^ 32
       by (No r) b e = omega (arith, fits)
       by Fine false e = omega (arith, fits)
       by Fine true e = omega (arith, ltb-true g (groupsOf (fieldsOf s .frames)) e, number-lt 16 4 s byte)

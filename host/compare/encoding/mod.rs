@@ -12,6 +12,7 @@ use crate::lent::as_bytes;
 use crate::shrink::Search;
 use crate::writing::{Sampled, RATE};
 use answers::{OfCalls, Tally};
+pub use sides::{MODES, OUR_MODES};
 
 /// All that a call is given, but for the room.
 #[derive(Clone, PartialEq)]

@@ -6,8 +6,9 @@ use crate::lent::Written;
 use crate::writing::Sampled;
 
 /// The modes by their numbers.
-const MODES: [ncw::StereoMode; 3] = [ncw::StereoMode::Auto, ncw::StereoMode::Direct, ncw::StereoMode::MidSide];
-const OUR_MODES: [ours::StereoMode; 3] = [ours::StereoMode::Auto, ours::StereoMode::Direct, ours::StereoMode::MidSide];
+pub const MODES: [ncw::StereoMode; 3] = [ncw::StereoMode::Auto, ncw::StereoMode::Direct, ncw::StereoMode::MidSide];
+pub const OUR_MODES: [ours::StereoMode; 3] =
+    [ours::StereoMode::Auto, ours::StereoMode::Direct, ours::StereoMode::MidSide];
 
 /// 38 and 39 are document 01's, and come first.
 pub fn original(call: &Call) -> Written {

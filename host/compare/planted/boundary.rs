@@ -59,6 +59,8 @@ fn spoiled(answer: u64, lent: &mut [u8]) -> u64 {
         "50 with exact room" if answer == room && room > 0 => return REFUSED + 50,
         "50 before the other refusals" if answer > REFUSED && room == 0 => return REFUSED + 50,
         "a crash" if answer == room => std::process::abort(),
+        "33 and 37 exchanged" if answer == REFUSED + 33 => return REFUSED + 37,
+        "33 and 37 exchanged" if answer == REFUSED + 37 => return REFUSED + 33,
         _ => (),
     }
     answer

@@ -5,8 +5,8 @@ use borrow.Author.Needs.{needs}
 use Rattle.remaster.proofs.job.run.Statement.{statement}
 use Rattle.remaster.proofs.job.run.Tie as tie
 
-slice-aggregate-make-room : tie.Need-slice-aggregate-make-room
-slice-aggregate-make-room c = simp length-take (omega arith)
+slice-aggregate-run-opened : tie.Need-slice-aggregate-run-opened
+slice-aggregate-run-opened c = simp length-take (omega arith)
 
 pub run-spec : {M : Type 1} → statement M
 run-spec =
@@ -22,7 +22,7 @@ run-spec =
     (λ c κs. search needs)
     (λ c. search needs)
     (λ c. search needs)
-    slice-aggregate-make-room
+    slice-aggregate-run-opened
     (λ c κs. search needs)
     (λ c. search needs)
     (λ c. search needs))

@@ -1,6 +1,6 @@
 // The change that stands for a remaster.
 ghost use mathlib.Core.Path.{_≡_};
-ghost use Rattle.remaster.specs.Halving.{halved, halvedInto};
+ghost use Rattle.remastered.specs.Halving.{halved, halvedInto};
 
 // Half of x, in steps of two from x's own parity: so frames of equal parity stay so, which mid/side asks for.
 fn halved(x: i32) -> i32

@@ -4,9 +4,9 @@ use mathlib.Core.Path.{_≡_}
 use native.Mathlib.Omega.{arith}
 use lib.ListN.{length, length-set}
 use borrow.Author.Needs.{needs, sfits-of}
-use Rattle.remaster.proofs.Halves.{soFar, into-turn, into-done}
-use Rattle.remaster.proofs.halving.halve.Statement.{statement}
-use Rattle.remaster.proofs.halving.halve.Tie as tie
+use Rattle.remastered.proofs.Halves.{soFar, into-turn, into-done}
+use Rattle.remastered.proofs.halving.halve.Statement.{statement}
+use Rattle.remastered.proofs.halving.halve.Tie as tie
 
 abbrev Inv-loop : tie.InvT-loop
 Inv-loop old new₀ i₀ new i = (i ≤ length old) × (i ≤ length new₀) × (length new ≡ length new₀) × (new ≡ soFar old new₀ i)

@@ -19,7 +19,7 @@ use Rattle.format.specs.Numbers.{value, codeOf}
 use Rattle.format.specs.Encoding.{equalParity}
 use Rattle.laws.proofs.Signs.{value-pos, value-neg, value-holds}
 use Rattle.sample.specs.Raised.{raised}
-use Rattle.remaster.specs.Halving.{halved, halvedInto}
+use Rattle.remastered.specs.Halving.{halved, halvedInto}
 
 -- ---- by the bits, as the code has it
 bits-raised : (x : ℤ) → SFits w32 x → (codeOf 32 x + 2 ^ 31) % 2 ^ 32 ≡ raised x
@@ -51,6 +51,20 @@ half-is x {z} {b} {u} {r} f eb eu er l ez =
     let up : u ≡ raised x = eu ∙ ap (λ (n : ℕ). (n + 2 ^ 31) % 2 ^ 32) (eb ∙ ap (codeOf 32) (toZ-ofZ w32 x f)) ∙ bits-raised x f in
     let fits : mag z < 2 ^ 31 = rw ez (value-holds 32 r (omega arith) l) in
     toZ-ofZ w32 z (record { sfits = fits }) ∙ ez ∙ lowered (raised x / 4 * 2 + raised x % 2) r (half-most (raised x) (raised-most x f)) l (er ∙ ap (λ (n : ℕ). n / 4 * 2 + n % 2) up)
+
+-- ---- it is half: x ≤ 2 · halved x + 2 and 2 · halved x ≤ x + 1, here with 2^32 more on each side
+raised-lowered : (v : ℕ) → raised (subℕ v (2 ^ 30)) ≡ v + 2 ^ 30
+raised-lowered v = by (ltb v (2 ^ 30)) refl
+  where
+    by : (t : Bool) → ltb v (2 ^ 30) ≡ t → raised (cond t (negsuc (2 ^ 30 - suc v)) (pos (v - 2 ^ 30))) ≡ v + 2 ^ 30
+    by true t = let less : v < 2 ^ 30 = ltb-true v (2 ^ 30) t in omega arith
+    by false t = let more : 2 ^ 30 ≤ v = ltb-false v (2 ^ 30) t in omega arith
+
+pub half-of : (x : ℤ) → (raised x + 2 ^ 31 ≤ 2 * raised (halved x) + 2) × (2 * raised (halved x) ≤ raised x + 2 ^ 31 + 1)
+unfolding halved
+half-of x =
+    let e = raised-lowered (raised x / 4 * 2 + raised x % 2) in
+    (omega (arith, e), omega (arith, e))
 
 -- ---- the parity is kept, so frames of equal parity stay so
 parity-lowered : (v : ℕ) → natAbs (subℕ v (2 ^ 30)) % 2 ≡ v % 2

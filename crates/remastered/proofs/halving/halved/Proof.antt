@@ -1,7 +1,7 @@
 use borrow.Author.Needs.{needs}
-use Rattle.remaster.proofs.Halves.{half-is}
-use Rattle.remaster.proofs.halving.halved.Statement.{statement}
-use Rattle.remaster.proofs.halving.halved.Tie as tie
+use Rattle.remastered.proofs.Halves.{half-is}
+use Rattle.remastered.proofs.halving.halved.Statement.{statement}
+use Rattle.remastered.proofs.halving.halved.Tie as tie
 
 returns : tie.Need-returns
 returns c = search (needs, half-is)
