@@ -1,4 +1,5 @@
-# What Rust for x86-64 takes on this machine: native tools on x86-64; Debian's packages and an emulator on Arm. host/original.sh is sourced first.
+# What Rust for x86-64 takes on this machine: native tools on x86-64; Debian's packages and an emulator on Arm.
+# host/original.sh is sourced first.
 
 machine=$(uname -m)
 target=x86_64-unknown-linux-gnu
@@ -22,12 +23,14 @@ install_packages() {
     done
     [ ${#missing[@]} -gt 0 ] || return 0
     if [ "$(id -u)" != 0 ] || ! command -v apt-get >/dev/null; then
-        stop "Debian's packages ${missing[*]} are missing. Installing them takes root and apt-get (packages of amd64: dpkg --add-architecture amd64 first)."
+        stop "Debian's packages ${missing[*]} are missing. Installing them takes root and apt-get" \
+            "(packages of amd64: dpkg --add-architecture amd64 first)."
     fi
-    echo "Installing Debian's packages ${missing[*]}" >&2
+    tell "installing Debian's packages ${missing[*]}"
     {
         if [[ ${missing[*]} == *:amd64* ]]; then dpkg --add-architecture amd64; fi
-        apt-get update -qq && DEBIAN_FRONTEND=noninteractive apt-get install -qq -y --no-install-recommends "${missing[@]}"
+        apt-get update -qq &&
+            DEBIAN_FRONTEND=noninteractive apt-get install -qq -y --no-install-recommends "${missing[@]}"
     } >&2 || stop "Debian's packages ${missing[*]} could not be installed."
 }
 
@@ -37,7 +40,8 @@ need() {
     command -v "$1" >/dev/null || stop "$1 is not on the PATH, though Debian's package $2 is installed."
 }
 
-# A rustc for this machine. On Arm it is Debian's, whatever else stands first on the PATH: only that one has packages for x86-64.
+# A rustc for this machine. On Arm it is Debian's, whatever else stands first on the PATH: only that one has packages
+# for x86-64.
 native_rust() {
     if [ "$machine" = x86_64 ]; then
         need rustc rustc-web
@@ -45,7 +49,8 @@ native_rust() {
         return
     fi
     install_packages rustc-web
-    rustc=$(command -p -v rustc) || stop "Debian's rustc is not in the system's folders, though its package is installed."
+    rustc=$(command -p -v rustc) ||
+        stop "Debian's rustc is not in the system's folders, though its package is installed."
 }
 
 # A rustc for x86-64, and how what it builds is linked and run here.

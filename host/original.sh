@@ -1,12 +1,17 @@
-# The Rust original, to build a tool upon. It is read, unchanged, from the folder in NCW_RUST_SRC that has its crates/ncw, or from
-# ../shared/docs/src beside the repository; error.rs of host/definitions stands in for the file that was not given.
+# The Rust original, to build a tool upon. It is read, unchanged, from the folder in NCW_RUST_SRC that has its
+# crates/ncw, or from ../shared/docs/src beside the repository; error.rs of host/definitions stands in for the file that
+# was not given.
 
 host=$(cd "$(dirname "${BASH_SOURCE[0]}")" && pwd -P)
 root=$(dirname "$host")
 rustc=rustc
 
-stop() {
+tell() {
     printf '%s\n' "$*" >&2
+}
+
+stop() {
+    tell "$@"
     exit 2
 }
 
@@ -22,7 +27,8 @@ original() {
     stop "The Rust original is not there. Set NCW_RUST_SRC to the folder that has its crates/ncw."
 }
 
-# build_original WORK WORDS..: the original as it is, with an error.rs beside it, as a library in the folder WORK. WORDS go to rustc.
+# build_original WORK WORDS..: the original as it is, with an error.rs beside it, as a library in the folder WORK.
+# WORDS go to rustc.
 build_original() {
     local work=$1 source
     shift

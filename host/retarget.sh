@@ -1,7 +1,8 @@
-# The archive's code for the machine it runs on, to be timed, compared and fuzzed there: on Arm it is the same module by another code generator.
-# It is not for callers: they take the archive. host/machine.sh is sourced first.
+# The archive's code for the machine it runs on, to be timed, compared and fuzzed there: on Arm it is the same module by
+# another code generator. It is not for callers: they take the archive. host/machine.sh is sourced first.
 
-# kit_beside FOLDER KEPT: the Rattle kit by links, but for its clang: a script that leaves the module and its own words in KEPT.
+# kit_beside FOLDER KEPT: the Rattle kit by links, but for its clang: a script that leaves the module and its own words
+# in KEPT.
 kit_beside() {
     local to=$1 kept=$2 from name
     from=${RATTLE_HOME:-$(dirname "$(dirname "$(readlink -f "$(command -v rt)")")")}
@@ -26,14 +27,15 @@ module_for() {
         sed -e '/^target /d' -e 's/ "\(target-cpu\|target-features\|tune-cpu\)"="[^"]*"//g'
 }
 
-# retarget FOLDER WORDS..: libncw.a in FOLDER, from the module and by the words that the archive for x86-64 is compiled by; only the target is another,
-# and WORDS come after them.
+# retarget FOLDER WORDS..: libncw.a in FOLDER, from the module and by the words that the archive for x86-64 is compiled
+# by; only the target is another, and WORDS come after them.
 retarget() (
     local folder=$1 arm=$machine-unknown-linux-gnu clang words
     rm -rf "$folder"
     mkdir -p "$folder/kept"
     kit_beside "$folder/kit" "$folder/kept"
     RATTLE_HOME=$folder/kit archive
+    tell "compiling the archive's module for $machine"
     cd "$folder/kept"
     module_for "$arm" >module.ll
     mapfile -t words < <(sed -e "s/^--target=.*/--target=$arm/" -e '/^-march=/d' -e 's/^module\.bc$/module.ll/' words)

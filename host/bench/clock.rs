@@ -1,4 +1,5 @@
-//! The time that this thread has had a processor, in seconds: on a busy machine the side that takes longer would otherwise wait more.
+//! The time that this thread has had a processor, in seconds: on a busy machine the side that takes longer would
+//! otherwise wait more.
 use std::hint::black_box;
 
 /// As C has it on 64-bit Linux.

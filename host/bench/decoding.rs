@@ -4,8 +4,8 @@ use crate::input::Input;
 use std::hint::black_box;
 use std::io::Cursor;
 
-/// The original; ours, into room that was lent and touched before; ours by the original's names, which opens, takes memory and
-/// decodes, as the original does; a plain copy of the samples.
+/// The original; ours, into room that was lent and touched before; ours by the original's names, which opens, takes
+/// memory and decodes, as the original does; a plain copy of the samples.
 pub fn times(input: &Input, turns: usize) -> Vec<f64> {
     let mut room = input.samples.clone();
     least(turns, || {

@@ -29,8 +29,8 @@ impl Input {
         Input { samples, spec, mode, file }
     }
 
-    /// The row's file as a template, with samples that are not its own: in each group the same frames, the last first. So what is coded
-    /// differs, and fits the same widths.
+    /// The row's file as a template, with samples that are not its own: in each group the same frames, the last first.
+    /// So what is coded differs, and fits the same widths.
     pub fn to_reencode(row: &Row) -> Self {
         let input = Input::of(row);
         let samples = backwards(row.form.channels().into(), &input.samples);

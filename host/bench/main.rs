@@ -75,13 +75,11 @@ impl Work {
         println!("Million samples a second, 4 bytes each, the best of several turns. Ratios are to the Rust.\n");
         println!("| length | form | depth | width | {} | lent ratio | drop-in ratio |", self.sides);
         println!("|{}", "---|".repeat(7 + self.sides.split('|').count() - 1));
-        let ratios: Vec<[f64; 2]> = rows.iter().map(|row| self.measure(row)).collect();
-        let lowest = |k: usize| ratios.iter().map(|ratio| ratio[k]).fold(f64::INFINITY, f64::min);
-        println!("\nThe lowest ratio of {} rows: lent {:.2}, drop-in {:.2}", rows.len(), lowest(0), lowest(1));
+        rows.iter().for_each(|row| self.measure(row));
     }
 
-    /// Prints a row's line, and gives its ratios.
-    fn measure(&self, row: &Row) -> [f64; 2] {
+    /// Prints a row's line.
+    fn measure(&self, row: &Row) {
         let input = (self.input)(row);
         if let Err(words) = (self.agree)(&input) {
             stop(&format!("{row:?}: {words}"));
@@ -90,7 +88,6 @@ impl Work {
         let rates = times.iter().map(|time| format!("{:.0} |", input.samples.len() as f64 / time / 1e6));
         let ratios = [times[0] / times[1], times[0] / times[2]];
         println!("| {row} | {} {:.2} | {:.2} |", rates.collect::<Vec<_>>().join(" "), ratios[0], ratios[1]);
-        ratios
     }
 }
 

@@ -62,14 +62,27 @@ fn stop(message: &str) -> ! {
 // ---- what is recorded
 
 fn recorded() -> Vec<Recorded> {
-    let short = cases::short_group(1, &mut random::Random::new(1));
-    let openings = [
-        opening("ncw_open", cases::one_sample()),
-        opening("ncw_open_refused", short),
-        opening("ncw_open_float", padded(cases::float_pairs(), lines::MOST)),
-        opening("ncw_open_large", padded(cases::float_pairs(), lines::MOST + 1)),
+    opened().into_iter().chain(opened_by_name()).chain(remastered()).chain(answers_listed()).collect()
+}
+
+fn opened() -> [Recorded; 2] {
+    let file = cases::one_sample();
+    let text = lines::of_input(&file);
+    [("ncw_open/stdin".to_string(), file), ("ncw_open/stdout".to_string(), text.into_bytes())]
+}
+
+/// The files that `ncw_open_files` is given, their names, and what it prints of them, one after another.
+fn opened_by_name() -> Vec<Recorded> {
+    let files = [
+        ("refused.ncw", cases::short_group(1, &mut random::Random::new(1))),
+        ("float.ncw", padded(cases::float_pairs(), lines::MOST)),
+        ("large", padded(cases::float_pairs(), lines::MOST + 1)),
     ];
-    openings.into_iter().flatten().chain(remastered()).chain(answers_listed()).collect()
+    let names: String = files.iter().map(|(name, _)| format!("{name}\n")).collect();
+    let text: String = files.iter().map(|(_, file)| lines::of_input(file)).collect();
+    let given = files.into_iter().map(|(name, file)| (format!("ncw_open_files/data/{name}"), file));
+    let beside = [("ncw_open_files/args".to_string(), names), ("ncw_open_files/stdout".to_string(), text)];
+    given.chain(beside.map(|(path, text)| (path, text.into_bytes()))).collect()
 }
 
 fn remastered() -> [Recorded; 2] {
@@ -87,11 +100,6 @@ fn answers_listed() -> [Recorded; 2] {
     let traps = traps::table(&tape.cases);
     traps.iter().for_each(|(trap, items)| assert!(!items.is_empty(), "no case of: {trap}"));
     [("replay/data/answers".to_string(), bytes), ("replay/stdout".to_string(), text.into_bytes())]
-}
-
-fn opening(program: &str, input: Vec<u8>) -> [Recorded; 2] {
-    let text = lines::of_input(&input);
-    [(format!("{program}/stdin"), input), (format!("{program}/stdout"), text.into_bytes())]
 }
 
 /// So many bytes, with zeros after the data.

@@ -11,6 +11,10 @@ use Rattle.bits.specs.declared.Pair.{Pair}
 abbrev pub bitsAt : ℕ → ℕ → ℕ → ℕ
 bitsAt n p w = n / 2 ^ p % 2 ^ w
 
+-- a run of 512 codes of width w
+abbrev pub WholeRun : List ℕ → ℕ → Type 0
+WholeRun s w = (1 ≤ w) × (w ≤ 32) × (length s ≡ 64 * w)
+
 -- a code of width w at bit p lies in the run, which is 512 codes of that width
 pub record Room (s : List ℕ) (p w : ℕ) : Type 0 where
   pub low : 1 ≤ w

@@ -1,30 +1,33 @@
 // Packed values, least significant bit first: bits.rs of the Rust.
 use format::Depth;
-use read_bytes::read_u64_le;
+use le_bytes::read_u64_le;
 ghost use mathlib.Core.Path.{_≡_};
 ghost use Prim.Native.Nat.{_+_, _*_, _%_, _<_, _≤_, _^_, min};
 ghost use lib.IntN.{pos};
 ghost use lib.ListN.{length, getD};
 ghost use Rattle.format.specs.Numbers.{value};
 ghost use Rattle.format.specs.Packed.{values};
-ghost use Rattle.bits.specs.Place.{Room, Window, Read, ReadTwo, two};
+ghost use Rattle.bits.specs.Place.{WholeRun, Room, Window, Read, ReadTwo, two};
 
 // A place in a packed run: the number of the bit that is read next.
 pub struct Cursor {
-    pub bit: usize,
+    bit: usize,
 }
 
-pub struct Next {
-    pub value: i32,
-    pub cursor: Cursor,
+// A value, and the cursor after it.
+struct Next {
+    value: i32,
+    cursor: Cursor,
 }
 
+// A value and the one after it, and the cursor after both.
 pub struct Pair {
     pub first: i32,
     pub second: i32,
     pub cursor: Cursor,
 }
 
+// 2 to the power k.
 pub fn pow2(k: u32) -> u64
     requires { ⌜ k < 64 ⌝ }
     ensures { λ r. ⌜ r ≡ 2 ^ k ⌝ }
@@ -32,7 +35,8 @@ pub fn pow2(k: u32) -> u64
     1 << k
 }
 
-// The number that the lowest `bits` bits of raw mean.
+// The number that the lowest `bits` bits of raw mean: a code below half of 2 ^ bits is itself, any other that less
+// 2 ^ bits.
 pub fn sign_extend(raw: u64, bits: u32) -> i32
     requires { ⌜ (1 ≤ bits) × (bits ≤ 32) ⌝ }
     ensures { λ r. ⌜ r ≡ value bits (raw % 2 ^ bits) ⌝ }
@@ -42,7 +46,7 @@ pub fn sign_extend(raw: u64, bits: u32) -> i32
     (up as i64 - half as i64) as i32
 }
 
-// A value and the one after it.
+// Two values that are read one by one, as a pair.
 fn two(a: Next, b: Next) -> Pair
     ensures { λ r. ⌜ r ≡ two a b ⌝ }
 {
@@ -54,7 +58,7 @@ fn two(a: Next, b: Next) -> Pair
     }
 }
 
-// Compiled as a choice of two numbers: no branch in the loops over a run but their own end.
+// The lesser of the two, compiled as a choice of numbers: the loops over a run have no branch but their own end.
 fn least(a: usize, b: usize) -> usize
     ensures { λ r. ⌜ r ≡ min a b ⌝ }
 {
@@ -62,6 +66,7 @@ fn least(a: usize, b: usize) -> usize
 }
 
 impl Cursor {
+    // The cursor before the first value.
     pub fn start() -> Self
         ensures { λ r. ⌜ r .bit ≡ 0 ⌝ }
     {
@@ -88,7 +93,7 @@ impl Cursor {
     }
 
     // The value at the cursor's place, and the cursor after it.
-    pub fn next(self, run: &[u8], bits: u32) -> Next
+    fn next(self, run: &[u8], bits: u32) -> Next
         requires { ⌜ Room (now run) (self .bit) bits ⌝ }
         ensures { λ r. ⌜ Read (now (run .entry)) (self .bit) bits r ⌝ }
     {
@@ -117,9 +122,9 @@ impl Cursor {
     }
 }
 
-// The 512 values of a packed run.
+// The 512 values of a packed run, of `bits` bits each.
 pub fn packed_values(run: &[u8], bits: u32) -> [i32; 512]
-    requires { ⌜ (1 ≤ bits) × (bits ≤ 32) × (length (now run) ≡ 64 * bits) ⌝ }
+    requires { ⌜ WholeRun (now run) bits ⌝ }
     ensures { λ r. ⌜ r ≡ values bits (now (run .entry)) ⌝ }
 {
     let mut out = [0i32; 512];
@@ -137,9 +142,9 @@ pub fn packed_values(run: &[u8], bits: u32) -> [i32; 512]
     out
 }
 
-// The last of them.
+// The last of them alone: the difference that no sample needs, which re-encoding keeps.
 pub fn last_value(run: &[u8], bits: u32) -> i32
-    requires { ⌜ (1 ≤ bits) × (bits ≤ 32) × (length (now run) ≡ 64 * bits) ⌝ }
+    requires { ⌜ WholeRun (now run) bits ⌝ }
     ensures { λ r. ⌜ r ≡ getD (values bits (now (run .entry))) 511 (pos 0) ⌝ }
 {
     let cursor = Cursor {

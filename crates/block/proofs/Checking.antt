@@ -1,4 +1,4 @@
--- The checks of a block, at each way out.
+-- The checks of a block, at each way out: those before it passed, and what was read is what the definition reads.
 use Prim.Native.Nat.{ℕ, _/_, _%_, _<_, _≤_}
 use mathlib.Core.Path.{_≡_, refl, sym, ap, _∙_}
 use mathlib.Core.Bool.{Bool, true, false, not, _&&_, cond}

@@ -1,4 +1,4 @@
--- A block's mark, compared as a number.
+-- A block's mark, compared as a number: four bytes are the same where the numbers that they are, are.
 use Prim.Native.Nat.{ℕ, _≤_}
 use mathlib.Core.Path.{_≡_, refl, sym, ap, _∙_}
 use mathlib.Core.List.{List}

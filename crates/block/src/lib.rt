@@ -1,13 +1,14 @@
-// One channel's block: its header, its checks, its samples, and mid/side: block.rs of the Rust.
+// One channel's block: its header, its checks, its samples: block.rs of the Rust.
 use bits::Cursor;
+use format::BLOCK_SIGNATURE;
 use format::Checked;
 use format::Coding;
 use format::Depth;
 use format::Fields;
 use format::Refusal;
 use format::SampleFormat;
-use read_bytes::read_u16_le;
-use read_bytes::read_u32_le;
+use le_bytes::read_u16_le;
+use le_bytes::read_u32_le;
 ghost use mathlib.Core.Path.{_≡_};
 ghost use mathlib.Core.Bool.{cond, not, _&&_};
 ghost use Prim.Native.Nat.{_+_, _*_, _/_, _%_, _<_, _≤_};
@@ -15,25 +16,28 @@ ghost use lib.Dec.{eqb};
 ghost use lib.ListN.{length};
 ghost use Rattle.format.specs.Packed.{coding, widthOf, values, rebuilt};
 ghost use Rattle.format.specs.Blocks.{isBlock, sizeOf, samplesOf};
-ghost use Rattle.format.specs.MidSide.{leftRight};
 ghost use Rattle.format.specs.Decoding.{isFloat, checkBlock};
+ghost use Rattle.bits.specs.Place.{WholeRun};
 ghost use Rattle.block.specs.Read.{blockHeader, Whole};
 
+// The numbers of a block's 16-byte header. `base` is the block's first sample where its values are differences;
+// `bits` says how they are coded (`coding`); of `flags` bit 0 is mid/side and bit 1 float.
 pub struct BlockHeader {
     pub base: i32,
     pub bits: i16,
     pub flags: u16,
 }
 
-// 16 0C 9A 3E.
+// Whether a block begins here: with its mark, 16 0C 9A 3E.
 pub fn is_block(r: &[u8]) -> bool
     requires { ⌜ 4 ≤ length (now r) ⌝ }
     ensures { λ b. ⌜ b ≡ isBlock (now (r .entry)) ⌝ }
 {
-    read_u32_le(r, 0) == 0x3E9A_0C16
+    read_u32_le(r, 0) == BLOCK_SIGNATURE
 }
 
 impl BlockHeader {
+    // The header that r begins with; its mark is not looked at, nor its last four bytes, which are padding.
     pub fn read(r: &[u8]) -> BlockHeader
         requires { ⌜ 16 ≤ length (now r) ⌝ }
         ensures { λ b. ⌜ b ≡ blockHeader (now (r .entry)) ⌝ }
@@ -45,12 +49,14 @@ impl BlockHeader {
         }
     }
 
+    // Bit 0: the group's channels are mid and side. Only the first channel's decides.
     pub fn is_mid_side(self) -> bool
         ensures { λ b. ⌜ b ≡ eqb (self .flags % 2) 1 ⌝ }
     {
         self.flags % 2 == 1
     }
 
+    // Bit 1: the samples are the bit patterns of floats.
     pub fn is_float(self) -> bool
         ensures { λ b. ⌜ b ≡ eqb (self .flags / 2 % 2) 1 ⌝ }
     {
@@ -58,7 +64,9 @@ impl BlockHeader {
     }
 }
 
-// The bits word, by range.
+// How the values are coded, by the range of the bits word: differences at that width, raw values at its absolute
+// width, or beyond 32. 0 is raw at the file's depth, as it has historically been decoded: that is not validated
+// against Kontakt, which rejected such blocks in live probes, and no writer makes one.
 pub fn coding(depth: u16, bits: i16) -> Coding
     ensures { λ r. ⌜ r ≡ coding depth bits ⌝ }
 {
@@ -70,6 +78,7 @@ pub fn coding(depth: u16, bits: i16) -> Coding
     }
 }
 
+// The bits of each packed value; 0 where the bits word is beyond 32.
 pub fn width(coding: Coding) -> u32
     ensures { λ r. ⌜ r ≡ widthOf coding ⌝ }
 {
@@ -80,7 +89,7 @@ pub fn width(coding: Coding) -> u32
     }
 }
 
-// The length of the block that r begins with.
+// The length in bytes of the block that r begins with, its header and its values.
 pub fn size_of(r: &[u8], depth: u16) -> usize
     requires { ⌜ (16 ≤ length (now r)) × (depth ≤ 32) ⌝ }
     ensures { λ n. ⌜ (n ≡ sizeOf depth (now (r .entry))) × (n ≤ 2064) ⌝ }
@@ -112,7 +121,9 @@ fn mid_side_alone(c: u32, mid: bool, channels: u16) -> bool
     false
 }
 
-// Channel c's block, which r begins with.
+// The refusals of channel c's block, which r begins with. 1: no whole header. 3: block signature. 20: the float bit
+// differs from the file's. 21: mid/side without two channels, on the first channel. 4: a bits word beyond 32. 1: no
+// whole values.
 pub fn check_block(h: Fields, format: SampleFormat, c: u32, r: &[u8]) -> Checked
     requires { ⌜ h .depth ≤ 32 ⌝ }
     ensures { λ k. ⌜ k ≡ checkBlock h format c (now (r .entry)) ⌝ }
@@ -142,7 +153,7 @@ pub fn check_block(h: Fields, format: SampleFormat, c: u32, r: &[u8]) -> Checked
 
 // Sample 0 is the base, sample k + 1 is sample k plus difference k, as they come from the run.
 fn rebuild(base: i32, run: &[u8], bits: u32) -> [i32; 512]
-    requires { ⌜ (1 ≤ bits) × (bits ≤ 32) × (length (now run) ≡ 64 * bits) ⌝ }
+    requires { ⌜ WholeRun (now run) bits ⌝ }
     ensures { λ r. ⌜ r ≡ rebuilt base (values bits (now (run .entry))) ⌝ }
 {
     let mut out = [0i32; 512];
@@ -163,7 +174,7 @@ fn rebuild(base: i32, run: &[u8], bits: u32) -> [i32; 512]
     out
 }
 
-// The 512 samples of the block that r begins with.
+// The 512 samples of the block that r begins with, as they are coded: mid and side are not undone.
 pub fn read_block(r: &[u8], depth: u16) -> [i32; 512]
     requires { ⌜ Whole depth (now r) ⌝ }
     ensures { λ xs. ⌜ xs ≡ samplesOf depth (now (r .entry)) ⌝ }
@@ -177,18 +188,4 @@ pub fn read_block(r: &[u8], depth: u16) -> [i32; 512]
         // no such block is whole
         Coding::Beyond => [0i32; 512],
     }
-}
-
-// Two channels of mid and side as left and right.
-pub fn decode_mid_side(format: SampleFormat, a: [[i32; 512]; 2]) -> [[i32; 512]; 2]
-    ensures { λ r. ⌜ r ≡ leftRight format a ⌝ }
-{
-    let mut d = a;
-    for i in 0..Depth::SAMPLES_PER_BLOCK {
-        let m = d[0][i];
-        let s = d[1][i];
-        d[0][i] = sample::left(format, m, s);
-        d[1][i] = sample::right(format, m, s);
-    }
-    d
 }

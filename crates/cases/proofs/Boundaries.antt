@@ -1,4 +1,4 @@
--- Cases of the host boundary.
+-- Cases of the host boundary, each by computation.
 use Prim.Native.Nat.{ℕ, _+_, _^_}
 use mathlib.Core.Path.{_≡_, refl}
 use mathlib.Core.List.{List, [], _∷_, _++_}

@@ -1,4 +1,4 @@
--- Cases of decoding: document 01's order of checks, its unstarred cases, and the traps.
+-- Cases of decoding, each by computation: document 01's order of checks, its unstarred cases, and the traps.
 use Prim.Native.Nat.{ℕ, _*_}
 use mathlib.Core.Path.{_≡_, refl}
 use mathlib.Core.List.{List, [], _∷_, _++_}

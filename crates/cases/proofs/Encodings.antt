@@ -1,4 +1,4 @@
--- Cases of encoding: document 01's order of checks, its unstarred cases, and the traps.
+-- Cases of encoding, each by computation: document 01's order of checks, its unstarred cases, and the traps.
 use Prim.Native.Nat.{ℕ, _*_}
 use mathlib.Core.Path.{_≡_, refl}
 use mathlib.Core.Bool.{true, false}

@@ -1,4 +1,5 @@
--- Cases of float mid/side: left and right of the patterns of mid and side, as IEEE 754 rounds them, and the one NaN.
+-- Cases of float mid/side, each by computation: left and right of the patterns of mid and side, as IEEE 754 rounds
+-- them, and the one NaN.
 use Prim.Native.Nat.{ℕ}
 use mathlib.Core.Path.{_≡_, refl}
 use mathlib.Core.List.{List, [], _∷_, _++_}

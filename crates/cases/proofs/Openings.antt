@@ -1,4 +1,4 @@
--- Cases of opening: document 01's order of checks, and the traps in it.
+-- Cases of opening, each by computation: document 01's order of checks, and the traps in it.
 use Prim.Native.Nat.{ℕ}
 use mathlib.Core.Path.{_≡_, refl}
 use mathlib.Core.List.{List, [], _∷_, _++_}
@@ -11,7 +11,8 @@ use Rattle.format.specs.declared.settings.SampleFormat.the-variants.{Pcm, Float
 use Rattle.format.specs.declared.answers.Outcome.the-variants.{Opened}
 use Rattle.format.proofs.Made.{document-01, said, saidAfter, laid, changed, five}
 
--- a block of differences at width 1, and a mono file of two groups of such blocks: 513 frames, table at 120, data at 132
+-- a block of differences at width 1, and a mono file of two groups of such blocks: 513 frames, table at 120, data at
+-- 132
 abbrev small : List ℕ
 small = blockBytes (pos 7) (pos 1) 0 (replicate 64 255)
 

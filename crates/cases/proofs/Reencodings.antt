@@ -1,4 +1,4 @@
--- Cases of re-encoding: document 01's order of checks, its unstarred case, and the traps.
+-- Cases of re-encoding, each by computation: document 01's order of checks, its unstarred case, and the traps.
 use Prim.Native.Nat.{ℕ}
 use mathlib.Core.Path.{_≡_, refl}
 use mathlib.Core.List.{List, [], _∷_, _++_}
@@ -75,7 +75,8 @@ abbrev full : ℤ → List ℕ
 full base = laid 1 16 512 [] (blockBytes base (pos 3) 0 (packing 3 (replicate 511 (pos 0) ++ (pos 3 ∷ []))) ∷ []) []
 
 pub record Reencodings : Type 0 where
-  -- 30, 31, 32 before the template's 1, 2, 40, 41, 42, and those before its groups: each fault more is found before all that were there
+  -- 30, 31, 32 before the template's 1, 2, 40, 41, 42, and those before its groups: each fault more is found before
+  -- all that were there
   pub spec : said (checkReencode (pcm 3 16) (pos 40000 ∷ []) faulty) ≡ 30
   pub frame : said (checkReencode (pcm 2 16) (pos 40000 ∷ []) faulty) ≡ 31
   pub value : said (checkReencode (pcm 1 16) (pos 40000 ∷ []) faulty) ≡ 32

@@ -1,4 +1,4 @@
--- Cases of the walk's step, over a mono file of two groups: 513 frames.
+-- Cases of the walk's step, each by computation, over a mono file of two groups: 513 frames.
 use Prim.Native.Nat.{ℕ}
 use mathlib.Core.Path.{_≡_, refl}
 use mathlib.Core.List.{List, [], _∷_, _++_}

@@ -1,4 +1,4 @@
--- What the tables of cases are made of.
+-- What the tables of cases are made of: small files, and all definitions opened, so that computing decides a case.
 use Prim.Native.Nat.{ℕ, _+_, _*_}
 use mathlib.Core.Path.{_≡_}
 use mathlib.Core.List.{List, [], _∷_, _++_}

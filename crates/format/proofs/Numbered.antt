@@ -1,4 +1,5 @@
--- Document 01, "Numbers of refusal": its table, each row by computation, and the limits of 31, 33 and 37.
+-- Document 01, "Numbers of refusal": its table, each row by computation, and the limits of 31, 33 and 37: whole
+-- frames, their count, and the data size.
 use mathlib.Core.Path.{_≡_, refl}
 use lib.IntN.{ℤ}
 use Rattle.format.specs.Units.{checkFrameCount, framedAs, checkFramed}

@@ -1,4 +1,4 @@
--- Laws of depths and of the two counts.
+-- Laws of depths and of the two counts: a depth is one of four, and frames times channels are samples.
 use Prim.Native.Nat.{ℕ, zero, suc, _-_, _*_, _/_, _%_, _^_, _≤_, _<_}
 use mathlib.Core.Path.{_≡_, refl, sym, ap, _∙_}
 use mathlib.Core.Bool.{Bool, true, false, not, _&&_, cond}

@@ -61,7 +61,8 @@ unfoldable pub leastFrom : ℕ → ℕ → List ℤ → ℕ
 leastFrom zero width xs = width
 leastFrom (suc n) width xs = let more = leastFrom n (width + 1) xs in cond (every (holds width) xs) width more
 
--- from 2 to 32
+-- from 2 to 32; encoding never takes width 1: Kontakt decoded it otherwise on a natural 16-bit probe, width 2 brought
+-- the exact samples back, and what width 1 means is unresolved
 unfoldable pub leastWidth : List ℤ → ℕ
 leastWidth xs = leastFrom 30 2 xs
 
@@ -81,7 +82,9 @@ blockBytes base bits flags run =
     ++ run))))
 
 -- a width under the depth gives differences at it; otherwise raw, bits = −depth;
--- base is the block's first value, in raw blocks too
+-- base is the block's first value, in raw blocks too.
+-- The choice, as that of mid/side below, is the Rust's own: it does not reproduce the block selection of NI, the
+-- format's vendor
 unfoldable pub encodedBlock : ℕ → ℕ → List ℤ → List ℕ
 encodedBlock depth flags xs =
     let width = leastWidth (differences xs) in

@@ -7,7 +7,8 @@ use crate::units::Samples;
 ghost use mathlib.Core.Path.{_≡_};
 ghost use Rattle.format.specs.Answers.{answeredBy, refusedBy};
 
-// The header's numbers, as they stand in bytes 8 to 31: NcwHeader of the Rust.
+// The header's numbers, as they stand in bytes 8 to 31: NcwHeader of the Rust. `frames` counts samples of one channel;
+// `table` and `start` are where the table and the data begin in the file, `size` is the data's in bytes.
 pub struct Fields {
     pub channels: u16,
     pub depth: u16,
@@ -46,12 +47,14 @@ pub struct Answer {
 }
 
 impl Answer {
+    // What a call did.
     pub fn of(outcome: Outcome) -> Answer
         ensures { λ r. ⌜ r ≡ answeredBy outcome ⌝ }
     {
         Answer { outcome }
     }
 
+    // Nothing was done, for this reason.
     pub fn refused(refusal: Refusal) -> Answer
         ensures { λ r. ⌜ r ≡ refusedBy refusal ⌝ }
     {

@@ -4,6 +4,7 @@ mod answers;
 mod packed;
 mod refusals;
 mod settings;
+mod signatures;
 mod units;
 
 pub use answers::Answer;
@@ -16,6 +17,10 @@ pub use refusals::Refusal;
 pub use settings::PcmSpec;
 pub use settings::SampleFormat;
 pub use settings::StereoMode;
+pub use signatures::BLOCK_SIGNATURE;
+pub use signatures::FILE_SIGNATURE;
+pub use signatures::FILE_SIGNATURE_30;
+pub use signatures::FILE_SIGNATURE_31;
 pub use units::Depth;
 pub use units::DepthWord;
 pub use units::Framed;

@@ -2,6 +2,7 @@
 ghost use mathlib.Core.Path.{_≡_};
 ghost use Rattle.format.specs.Refusals.{number};
 
+// Why a call is refused; `number` has each in document 01's words.
 pub enum Refusal {
     TooShort,
     FileSignature,
@@ -47,45 +48,46 @@ pub enum Checked {
 }
 
 impl Refusal {
+    // Document 01's number for it.
     pub fn number(self) -> u32
         ensures { λ r. ⌜ r ≡ number self ⌝ }
     {
         match self {
-            Refusal::TooShort => 1,
-            Refusal::FileSignature => 2,
-            Refusal::BlockSignature => 3,
-            Refusal::BitsWord(_) => 4,
-            Refusal::ZeroChannels => 10,
-            Refusal::DepthUnknown => 11,
-            Refusal::ZeroRate => 12,
-            Refusal::TableOffset => 13,
-            Refusal::DataOffset => 14,
-            Refusal::TableLength => 15,
-            Refusal::LastEntry => 16,
-            Refusal::DataWithoutFrames => 17,
-            Refusal::FirstEntry => 18,
-            Refusal::EntryBounds => 19,
-            Refusal::FloatDiffers => 20,
-            Refusal::MidSideChannels => 21,
-            Refusal::BytesLeft => 22,
-            Refusal::WriterSpec => 30,
-            Refusal::IncompleteFrame => 31,
-            Refusal::ValueOutside => 32,
-            Refusal::TooManyFrames => 33,
-            Refusal::NotStereo => 34,
-            Refusal::ParityDiffers => 35,
-            Refusal::WidthTooSmall => 36,
-            Refusal::DataTooLarge => 37,
-            Refusal::UnknownMode => 38,
-            Refusal::SampleBytes => 39,
-            Refusal::TemplateDiffers => 40,
-            Refusal::TemplateBounds => 41,
-            Refusal::TemplateOffsets => 42,
-            Refusal::ShortGroup => 43,
-            Refusal::TemplateBits => 44,
-            Refusal::TemplateFlags => 45,
-            Refusal::TemplateBytesLeft => 46,
-            Refusal::OutputTooShort => 50,
+            Refusal::TooShort => 1, // input ends too soon
+            Refusal::FileSignature => 2, // file signature
+            Refusal::BlockSignature => 3, // block signature
+            Refusal::BitsWord(_) => 4, // bits word beyond 32 either way; it is kept, and told too
+            Refusal::ZeroChannels => 10, // zero channels
+            Refusal::DepthUnknown => 11, // depth not 8, 16, 24, 32
+            Refusal::ZeroRate => 12, // zero rate
+            Refusal::TableOffset => 13, // table offset under 120
+            Refusal::DataOffset => 14, // data offset under table offset
+            Refusal::TableLength => 15, // wrong table length
+            Refusal::LastEntry => 16, // last entry is not the data size
+            Refusal::DataWithoutFrames => 17, // zero frames with data
+            Refusal::FirstEntry => 18, // first entry not 0
+            Refusal::EntryBounds => 19, // an entry's end past the data size, or under 80 × channels after its start
+            Refusal::FloatDiffers => 20, // float bit differs from the file's first block
+            Refusal::MidSideChannels => 21, // mid/side without two channels
+            Refusal::BytesLeft => 22, // bytes left in a group
+            Refusal::WriterSpec => 30, // writer: channels not 1 or 2, depth not 16 or 24, or zero rate
+            Refusal::IncompleteFrame => 31, // incomplete frame
+            Refusal::ValueOutside => 32, // value outside depth
+            Refusal::TooManyFrames => 33, // over 4,294,967,295 frames
+            Refusal::NotStereo => 34, // mid/side without stereo
+            Refusal::ParityDiffers => 35, // parity differs
+            Refusal::WidthTooSmall => 36, // value or difference doesn't fit width
+            Refusal::DataTooLarge => 37, // data size over 32 bits
+            Refusal::UnknownMode => 38, // host boundary: unknown mode
+            Refusal::SampleBytes => 39, // host boundary: sample bytes not a multiple of 4
+            Refusal::TemplateDiffers => 40, // the template's channels, depth, rate or frames differ from the call's
+            Refusal::TemplateBounds => 41, // template: table or data bounds
+            Refusal::TemplateOffsets => 42, // template: offsets not rising from 0 to the data size
+            Refusal::ShortGroup => 43, // template group under 12 bytes
+            Refusal::TemplateBits => 44, // template: bits 0 or 1
+            Refusal::TemplateFlags => 45, // template: flags above 1
+            Refusal::TemplateBytesLeft => 46, // bytes left in a template group
+            Refusal::OutputTooShort => 50, // lent output too short
         }
     }
 }

@@ -1,16 +1,22 @@
 // What a file's samples are, and how a caller wants them written.
 
+// What a sample's 32 bits are: an integer of the file's depth, or the bit pattern of an f32.
 pub enum SampleFormat {
     Pcm,
     Float,
 }
 
+// Which form the two channels of newly encoded groups take.
 pub enum StereoMode {
+    // In each group mid/side where that is exact and smaller than direct, and else direct.
     Auto,
+    // Left and right as they are.
     Direct,
+    // Mid/side in every group; where a frame's samples differ in parity this refuses, and does not round.
     MidSide,
 }
 
+// What a writer is told of the samples. Both writers take mono and stereo, of 16 and of 24 bits.
 pub struct PcmSpec {
     pub channels: u16,
     pub bits_per_sample: u16,

@@ -20,12 +20,16 @@ pub enum DepthWord {
 }
 
 impl Depth {
+    // Every block holds so many samples of one channel; the last of a file is padded to them.
     pub const SAMPLES_PER_BLOCK: usize = 512;
 
+    // The file's header, in bytes.
     pub const HEADER_SIZE: usize = 120;
 
+    // A block's header, in bytes, before its packed values.
     pub const BLOCK_HEADER_SIZE: usize = 16;
 
+    // The depth that a word names, or that it names none.
     pub fn from_bits(bits: u16) -> DepthWord
         ensures { λ r. ⌜ r ≡ depthWord bits ⌝ }
     {
@@ -38,7 +42,8 @@ impl Depth {
         }
     }
 
-    // The depth that a word names; where it names none, 0 among them, the widest. Opening refuses such a word by 11.
+    // The depth that a word names; where it names none, 0 among them, the widest. Opening refuses such a word,
+    // 11: depth not 8, 16, 24, 32.
     pub fn of(bits: u16) -> Depth
         ensures { λ r. ⌜ r ≡ depthOf bits ⌝ }
     {
@@ -48,6 +53,7 @@ impl Depth {
         }
     }
 
+    // Bits in a sample.
     pub fn bits(self) -> u16
         ensures { λ r. ⌜ r ≡ bitsIn self ⌝ }
     {
@@ -59,12 +65,14 @@ impl Depth {
         }
     }
 
+    // Bytes in a sample.
     pub fn bytes(self) -> u16
         ensures { λ r. ⌜ r ≡ bytesIn self ⌝ }
     {
         self.bits() / 8
     }
 
+    // The lowest sample of this depth.
     pub fn lowest(self) -> i32
         ensures { λ r. ⌜ r ≡ lowest self ⌝ }
     {
@@ -76,6 +84,7 @@ impl Depth {
         }
     }
 
+    // The highest sample of this depth.
     pub fn highest(self) -> i32
         ensures { λ r. ⌜ r ≡ highest self ⌝ }
     {
@@ -105,13 +114,14 @@ impl Frames {
     // A group's frames: a block's samples, of one channel.
     const PER_GROUP: u32 = Depth::SAMPLES_PER_BLOCK as u32;
 
+    // As many frames in samples: frames times channels.
     pub fn samples(self, channels: u16) -> Samples
         ensures { λ r. ⌜ r ≡ samplesIn self channels ⌝ }
     {
         Samples(self.0 as u64 * channels as u64)
     }
 
-    // Frames / 512, rounded up.
+    // How many groups hold as many frames: frames / 512, rounded up.
     pub fn groups(self) -> u32
         ensures { λ r. ⌜ (r ≡ groupsOf self) × (r ≤ 8388608) ⌝ }
     {
@@ -141,6 +151,7 @@ impl Frames {
 }
 
 impl Samples {
+    // As many samples in frames: only whole ones, at most 4,294,967,295, and none without a channel.
     pub fn frames(self, channels: u16) -> Framed
         ensures { λ r. ⌜ Framing self channels r ⌝ }
     {

@@ -20,8 +20,8 @@ use Rattle.laws.proofs.Lengths.{samples-512}
 use Rattle.laws.proofs.Passed.{header-there, bits-known, run-there, block-fine, mid-two}
 use Rattle.block.specs.Read.{blockHeader, Whole}
 use Rattle.block.specs.declared.BlockHeader.{BlockHeader}
-use Rattle.lent.specs.Lent.{placed, strided, wovenFrom}
-use Rattle.lent.proofs.Weave.{channelsPut, all-put}
+use Rattle.lent_samples.specs.Lent.{placed, strided, wovenFrom}
+use Rattle.lent_samples.proofs.Weave.{channelsPut, all-put}
 use Rattle.group.specs.Readable.{Readable}
 use Rattle.group.proofs.Places.{part, part-is, Begins, begins-first, begins-more}
 

@@ -13,7 +13,7 @@ use Rattle.format.specs.Units.{active}
 use Rattle.format.specs.Encoding.{groupIn}
 use Rattle.format.specs.declared.units.Frames.{Frames}
 use Rattle.laws.proofs.Channels.{active-low, group-length}
-use Rattle.lent.specs.Lent.{framesFrom}
+use Rattle.lent_samples.specs.Lent.{framesFrom}
 
 module _ (n : ℕ) (frames : Frames) (s : List ℤ) (l : length s ≡ n * frames .0) where
   pub group-frames : (g k : ℕ) → k ≡ active frames g → framesFrom n (512 * g) k s ≡ groupIn n s g
@@ -31,7 +31,3 @@ module _ (n : ℕ) (frames : Frames) (s : List ℤ) (l : length s ≡ n * frames
   group-inside g h =
       let q : 512 * g + active frames g ≤ frames .0 = omega arith in
       omega (arith, mul-le-mul-left n q, mul-comm n (512 * g + active frames g))
-
-pub active-some : (frames : Frames) (g : ℕ) → g < groupsOf frames → 0 < active frames g
-unfolding groupsOf active
-active-some frames g h = omega arith

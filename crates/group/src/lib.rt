@@ -3,15 +3,15 @@ use format::Checked;
 use format::Fields;
 use format::Refusal;
 use format::SampleFormat;
-use lent::Container;
+use lent_samples::Container;
+use lent_samples::Part;
 ghost use mathlib.Core.Path.{_≡_};
-ghost use Prim.Native.Nat.{_+_, _*_, _<_, _≤_};
-ghost use lib.ListN.{length};
+ghost use Prim.Native.Nat.{_+_, _<_, _≤_};
 ghost use Rattle.format.specs.Decoding.{checkGroup, channelsOf};
-ghost use Rattle.lent.specs.Lent.{lentOf, restOf, placed, wovenFrom};
+ghost use Rattle.lent_samples.specs.Lent.{lentOf, Put, PartFits, framesPut};
 ghost use Rattle.group.specs.Readable.{Readable};
 
-// Each channel in order; after the channels 22.
+// The checks of a group, from its block headers alone: each channel in order, then 22: bytes are left over.
 pub fn check_group(h: Fields, format: SampleFormat, bs: &[u8]) -> Checked
     requires { ⌜ h .depth ≤ 32 ⌝ }
     ensures { λ r. ⌜ r ≡ checkGroup h format (now (bs .entry)) ⌝ }
@@ -44,58 +44,55 @@ fn read_pair(h: Fields, format: SampleFormat, bs: &[u8]) -> [[i32; 512]; 2]
     let a = [l, r];
     let b = block::BlockHeader::read(bs);
     if b.is_mid_side() {
-        return block::decode_mid_side(format, a);
+        return stereo::left_right(format, a);
     }
     a
 }
 
 // Any number of channels, one at a time.
-fn write_channels(
+fn put_channels(
     which: Container,
     words: &mut [i32],
     bytes: &mut [u8],
     bs: &[u8],
     h: Fields,
     format: SampleFormat,
-    first: usize,
-    skip: usize,
-    n: usize,
+    part: Part,
 )
-    requires { ⌜ (Readable h format (now bs)) × (h .channels ≡ 2 → ⊥) × (skip + n ≤ 512) × ((first + n) * h .channels ≤ length (lentOf which (now words) (now bytes))) ⌝ }
-    ensures puts { λ _. ⌜ lentOf which (now (words .exit)) (now (bytes .exit)) ≡ placed (first * h .channels) (wovenFrom skip n (channelsOf h format (now (bs .entry)))) (lentOf which (now (words .entry)) (now (bytes .entry))) ⌝ }
-    ensures keeps { λ _. ⌜ restOf which (now (words .exit)) (now (bytes .exit)) ≡ restOf which (now (words .entry)) (now (bytes .entry)) ⌝ }
+    requires { ⌜ (Readable h format (now bs)) × (h .channels ≡ 2 → ⊥)
+        × PartFits part (h .channels) (lentOf which (now words) (now bytes)) ⌝ }
+    ensures { λ _. ⌜ Put which (now (words .entry)) (now (bytes .entry)) (now (words .exit)) (now (bytes .exit))
+        (framesPut part (h .channels) (channelsOf h format (now (bs .entry)))) ⌝ }
 {
     let channels = h.channels as usize;
     let mut at: usize = 0;
     let mut c: usize = 0;
     while c < channels {
         let run = block::read_block(&bs[at..], h.depth);
-        lent::put_channel(which, words, bytes, first, skip, n, channels, c, run);
+        lent_samples::put_channel(which, words, bytes, part, channels, c, run);
         at += block::size_of(&bs[at..], h.depth);
         c += 1;
     }
 }
 
-// n frames of a group, from `skip` on, put where the frames from `first` on lie.
-pub fn write_group(
+// Puts part of a group's frames where they lie in what is lent. `bs` are the group's bytes, whose checks have passed.
+pub fn put_group(
     which: Container,
     words: &mut [i32],
     bytes: &mut [u8],
     bs: &[u8],
     h: Fields,
     format: SampleFormat,
-    first: usize,
-    skip: usize,
-    n: usize,
+    part: Part,
 )
-    requires { ⌜ (Readable h format (now bs)) × (skip + n ≤ 512) × ((first + n) * h .channels ≤ length (lentOf which (now words) (now bytes))) ⌝ }
-    ensures puts { λ _. ⌜ lentOf which (now (words .exit)) (now (bytes .exit)) ≡ placed (first * h .channels) (wovenFrom skip n (channelsOf h format (now (bs .entry)))) (lentOf which (now (words .entry)) (now (bytes .entry))) ⌝ }
-    ensures keeps { λ _. ⌜ restOf which (now (words .exit)) (now (bytes .exit)) ≡ restOf which (now (words .entry)) (now (bytes .entry)) ⌝ }
+    requires { ⌜ (Readable h format (now bs)) × PartFits part (h .channels) (lentOf which (now words) (now bytes)) ⌝ }
+    ensures { λ _. ⌜ Put which (now (words .entry)) (now (bytes .entry)) (now (words .exit)) (now (bytes .exit))
+        (framesPut part (h .channels) (channelsOf h format (now (bs .entry)))) ⌝ }
 {
     if h.channels == 2 {
         let a = read_pair(h, format, bs);
-        lent::interleave(which, words, bytes, first, skip, n, a);
+        lent_samples::interleave(which, words, bytes, part, a);
     } else {
-        write_channels(which, words, bytes, bs, h, format, first, skip, n);
+        put_channels(which, words, bytes, bs, h, format, part);
     }
 }

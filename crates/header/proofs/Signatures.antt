@@ -1,4 +1,4 @@
--- The file's signature, compared as a number.
+-- The file's signature, compared as a number: eight bytes are the same where the numbers that they are, are.
 use Prim.Native.Nat.{ℕ, _≤_}
 use mathlib.Core.Path.{_≡_, refl}
 use mathlib.Core.Bool.{true, false, _||_}

@@ -1,13 +1,17 @@
-// The header's numbers and the offset table, and their checks: header.rs of the Rust, and validate_offsets of its reader.rs.
+// The header's numbers and the offset table, and their checks: header.rs of the Rust, and validate_offsets of its
+// reader.rs.
 use format::Checked;
 use format::Depth;
 use format::DepthWord;
+use format::FILE_SIGNATURE;
+use format::FILE_SIGNATURE_30;
+use format::FILE_SIGNATURE_31;
 use format::Fields;
 use format::Frames;
 use format::Refusal;
-use read_bytes::read_u16_le;
-use read_bytes::read_u32_le;
-use read_bytes::read_u64_le;
+use le_bytes::read_u16_le;
+use le_bytes::read_u32_le;
+use le_bytes::read_u64_le;
 ghost use mathlib.Core.Path.{_≡_};
 ghost use Prim.Native.Nat.{_+_, _*_, _<_, _≤_};
 ghost use lib.ListN.{length};
@@ -16,18 +20,25 @@ ghost use Rattle.format.specs.Header.{isSignature, fieldsOf, groupsOf, entry};
 ghost use Rattle.format.specs.Units.{isDepth};
 ghost use Rattle.format.specs.Opening.{checkFields, checkOffsets, badEntry, checkTable};
 
-// 01 A8 9E D6 31 01 00 00, or the same with 30 for 31.
+// The two signatures, each as one number of eight bytes.
+const SIGNATURE_31: u64 = 0x1_0000_0000 * FILE_SIGNATURE_31 as u64 + FILE_SIGNATURE as u64;
+
+const SIGNATURE_30: u64 = 0x1_0000_0000 * FILE_SIGNATURE_30 as u64 + FILE_SIGNATURE as u64;
+
+// Whether the file begins with 01 A8 9E D6 31 01 00 00, or the same with 30 for 31.
 pub fn is_signature(s: &[u8]) -> bool
     requires { ⌜ 8 ≤ length (now s) ⌝ }
     ensures { λ r. ⌜ r ≡ isSignature (now (s .entry)) ⌝ }
 {
     match read_u64_le(s, 0) {
-        0x0000_0131_D69E_A801 => true,
-        0x0000_0130_D69E_A801 => true,
+        SIGNATURE_31 => true,
+        SIGNATURE_30 => true,
         _ => false,
     }
 }
 
+// The header's numbers, from bytes 8 to 31. The bytes after them up to 119 are not looked at: what they mean is
+// unknown.
 pub fn read_fields(s: &[u8]) -> Fields
     requires { ⌜ 32 ≤ length (now s) ⌝ }
     ensures { λ r. ⌜ r ≡ fieldsOf (now (s .entry)) ⌝ }
@@ -43,6 +54,7 @@ pub fn read_fields(s: &[u8]) -> Fields
     }
 }
 
+// Whether the depth word is 8, 16, 24 or 32.
 fn is_depth(bits: u16) -> bool
     ensures { λ r. ⌜ r ≡ isDepth bits ⌝ }
 {
@@ -52,6 +64,7 @@ fn is_depth(bits: u16) -> bool
     }
 }
 
+// The refusals of the fields alone. 10: zero channels. 11: depth not 8, 16, 24, 32. 12: zero rate.
 pub fn check_fields(h: Fields) -> Checked
     ensures { λ r. ⌜ r ≡ checkFields h ⌝ }
 {
@@ -67,6 +80,8 @@ pub fn check_fields(h: Fields) -> Checked
     Checked::Fine
 }
 
+// The refusals of the offsets in a file of n bytes. 13: table offset under 120. 14: data offset under table offset.
+// 15: wrong table length. 1: the data end past the file.
 pub fn check_offsets(h: Fields, n: usize) -> Checked
     ensures { λ r. ⌜ r ≡ checkOffsets h n ⌝ }
 {
@@ -86,6 +101,7 @@ pub fn check_offsets(h: Fields, n: usize) -> Checked
     Checked::Fine
 }
 
+// Entry k of the offset table: where group k begins in the data, and where group k - 1 ends.
 pub fn entry_at(s: &[u8], h: Fields, k: u32) -> u32
     requires { ⌜ h .table + 4 * k + 4 ≤ length (now s) ⌝ }
     ensures { λ r. ⌜ r ≡ entry (now (s .entry)) h k ⌝ }
@@ -94,6 +110,8 @@ pub fn entry_at(s: &[u8], h: Fields, k: u32) -> u32
     read_u32_le(s, at)
 }
 
+// Whether group k's end is past the data, before its start, or nearer to it than the smallest blocks that are read:
+// of width 1, a header of 16 bytes and 64 of values for each channel.
 fn bad_entry(s: &[u8], h: Fields, k: u32) -> bool
     requires { ⌜ (k < 8388608) × (h .table + 4 * k + 8 ≤ length (now s)) ⌝ }
     ensures { λ r. ⌜ r ≡ badEntry (now (s .entry)) h k ⌝ }
@@ -109,6 +127,7 @@ fn bad_entry(s: &[u8], h: Fields, k: u32) -> bool
     to - from < 80 * (h.channels as u32)
 }
 
+// Whether the entries of some group below g are bad.
 fn any_bad(s: &[u8], h: Fields, g: u32) -> bool
     requires { ⌜ (g ≤ 8388608) × (h .table + 4 * (g + 1) ≤ length (now s)) ⌝ }
     ensures { λ r. ⌜ r ≡ anyBelow (badEntry (now (s .entry)) h) g ⌝ }
@@ -123,6 +142,8 @@ fn any_bad(s: &[u8], h: Fields, g: u32) -> bool
     false
 }
 
+// The refusals of the table. 16: the last entry is not the data size. Without groups 17: zero frames with data. With
+// groups 18: the first entry is not 0; and 19: some group's entries are bad.
 pub fn check_table(s: &[u8], h: Fields) -> Checked
     requires { ⌜ h .table + 4 * (groupsOf (h .frames) + 1) ≤ length (now s) ⌝ }
     ensures { λ r. ⌜ r ≡ checkTable (now (s .entry)) h ⌝ }

@@ -1,4 +1,5 @@
--- Laws of a chain of checks, and of the tests in it, in the form that a way out of a function asks for.
+-- Laws of a chain of checks, and of the tests in it, in the form that a way out of a function asks for: the checks
+-- before it passed, and the next one refuses or decides.
 use Prim.Native.Nat.{ℕ, _+_, _<_, _≤_}
 use mathlib.Core.Path.{_≡_, refl, sym, _∙_}
 use mathlib.Core.Bool.{Bool, true, false, not, _&&_, _||_}
@@ -71,7 +72,8 @@ pub ruleset flags = (flag-yes, flag-no, same-eqb, other-eqb)
 
 pub ruleset chain = (stop, stop-then, pass, pass-then, lt-ltb, le-ltb, eq-eqb, ne-eqb, not-yes, not-no, and-both, first-no, and-no, arith)
 
--- ---- checks that a callee answered: k is its answer, a what its contract says that it is, b what is asked after them
+-- ---- checks that a callee answered: k is its answer, a what its contract says that it is, b what is asked after
+-- them
 
 module _ (k a : Checked) (says : k ≡ a) where
   pub settled : (c : Checked) → k ≡ c → a ≡ c

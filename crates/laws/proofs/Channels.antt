@@ -1,4 +1,5 @@
--- Channels of interleaved samples, padded, and woven again, over the channel count.
+-- Channels of interleaved samples, padded, and woven again: frame i of n channels is samples i * n to i * n + n - 1,
+-- so weaving undoes the taking apart, over the channel count.
 use Prim.Native.Nat.{ℕ, suc, _+_, _-_, _*_, _/_, _≤_, _<_, min}
 use native.Mathlib.Decide.{decLe}
 use mathlib.Core.Path.{_≡_, refl, sym, ap, ap₂, _∙_}
@@ -49,28 +50,28 @@ module _ (n k : ℕ) (some : 1 ≤ n) (s : List ℤ) (l : length s ≡ n * k) wh
   channel-holds b c h = each-tab (Holds b) (pos 0) (pow-pos (b - 1)) (length s / n) (λ i. getD s (i * n + c) (pos 0)) (λ i q. h (i * n + c))
 
   -- as they stand
-  pub plain-is : (c : ℕ) → c < n → getD (unwoven n s) c [] ≡ channel n s c
+  pub unwoven-is : (c : ℕ) → c < n → getD (unwoven n s) c [] ≡ channel n s c
   unfolding unwoven
-  plain-is c q = getD-tab n (channel n s) c [] q
+  unwoven-is c q = getD-tab n (channel n s) c [] q
 
-  pub plain-at : (c i : ℕ) → c < n → i < k → getD (getD (unwoven n s) c []) i (pos 0) ≡ getD s (i * n + c) (pos 0)
-  plain-at c i q h = ap (λ (x : List ℤ). getD x i (pos 0)) (plain-is c q) ∙ channel-at c i h
+  pub unwoven-at : (c i : ℕ) → c < n → i < k → getD (getD (unwoven n s) c []) i (pos 0) ≡ getD s (i * n + c) (pos 0)
+  unwoven-at c i q h = ap (λ (x : List ℤ). getD x i (pos 0)) (unwoven-is c q) ∙ channel-at c i h
 
-  pub plain-long : (c : ℕ) → c < n → length (getD (unwoven n s) c []) ≡ k
-  plain-long c q = ap length (plain-is c q) ∙ channel-length c
+  pub unwoven-long : (c : ℕ) → c < n → length (getD (unwoven n s) c []) ≡ k
+  unwoven-long c q = ap length (unwoven-is c q) ∙ channel-length c
 
-  pub plain-level : (b : ℕ) → AllHold b s → Level b n k (unwoven n s)
+  pub unwoven-level : (b : ℕ) → AllHold b s → Level b n k (unwoven n s)
   unfolding unwoven
-  plain-level b h =
+  unwoven-level b h =
       record {
         count = length-tab n (channel n s);
-        long = plain-long;
-        hold = λ c q i. rw (plain-is c q) (channel-holds b c h i);
+        long = unwoven-long;
+        hold = λ c q i. rw (unwoven-is c q) (channel-holds b c h i);
       }
 
   -- and padded to 512
   module _ (few : k ≤ 512) where
-    pub padded-length : (c : ℕ) → length (padded (channel n s c)) ≡ 512
+    padded-length : (c : ℕ) → length (padded (channel n s c)) ≡ 512
     unfolding padded
     padded-length c = length-append (channel n s c) _ ∙ omega (arith, channel-length c, length-replicate (512 - length (channel n s c)) (lastOr (pos 0) (channel n s c)))
 
@@ -82,24 +83,24 @@ module _ (n k : ℕ) (some : 1 ≤ n) (s : List ℤ) (l : length s ≡ n * k) wh
         each-append (Holds b) (pos 0) z (channel n s c) _ a
         (each-replicate (Holds b) (pos 0) z (512 - length (channel n s c)) (lastOr (pos 0) (channel n s c)) (last-holds b (pos 0) (channel n s c) z a))
 
-    pub padded-at : (c i : ℕ) → i < k → getD (padded (channel n s c)) i (pos 0) ≡ getD s (i * n + c) (pos 0)
+    padded-at : (c i : ℕ) → i < k → getD (padded (channel n s c)) i (pos 0) ≡ getD s (i * n + c) (pos 0)
     unfolding padded
     padded-at c i h = List·getD-append (channel n s c) _ (pos 0) i (omega (arith, channel-length c)) ∙ channel-at c i h
 
-    pub split-is : (c : ℕ) → c < n → getD (paddedChannels n s) c [] ≡ padded (channel n s c)
+    pub padded-channels-is : (c : ℕ) → c < n → getD (paddedChannels n s) c [] ≡ padded (channel n s c)
     unfolding paddedChannels
-    split-is c q = getD-tab n (λ c. padded (channel n s c)) c [] q
+    padded-channels-is c q = getD-tab n (λ c. padded (channel n s c)) c [] q
 
-    pub split-at : (c i : ℕ) → c < n → i < k → getD (getD (paddedChannels n s) c []) i (pos 0) ≡ getD s (i * n + c) (pos 0)
-    split-at c i q h = ap (λ (x : List ℤ). getD x i (pos 0)) (split-is c q) ∙ padded-at c i h
+    padded-channels-at : (c i : ℕ) → c < n → i < k → getD (getD (paddedChannels n s) c []) i (pos 0) ≡ getD s (i * n + c) (pos 0)
+    padded-channels-at c i q h = ap (λ (x : List ℤ). getD x i (pos 0)) (padded-channels-is c q) ∙ padded-at c i h
 
-    pub split-level : (b : ℕ) → AllHold b s → Level b n 512 (paddedChannels n s)
+    pub padded-channels-level : (b : ℕ) → AllHold b s → Level b n 512 (paddedChannels n s)
     unfolding paddedChannels
-    split-level b h =
+    padded-channels-level b h =
         record {
           count = length-tab n (λ c. padded (channel n s c));
-          long = λ c q. ap length (split-is c q) ∙ padded-length c;
-          hold = λ c q i. rw (split-is c q) (padded-holds b c h i);
+          long = λ c q. ap length (padded-channels-is c q) ∙ padded-length c;
+          hold = λ c q i. rw (padded-channels-is c q) (padded-holds b c h i);
         }
 
 -- ---- channels whose first k samples are those of s, woven
@@ -145,9 +146,9 @@ unfolding woven
 each-woven P z k chans p = each-joined P (pos 0) z (frameOf chans) k (λ i l c. rw (frame-at chans i c) (p c i))
 
 -- the padded channels give their samples back
-pub woven-split : (n k : ℕ) → 1 ≤ n → k ≤ 512 → (s : List ℤ) → length s ≡ n * k → woven k (paddedChannels n s) ≡ s
+pub woven-padded : (n k : ℕ) → 1 ≤ n → k ≤ 512 → (s : List ℤ) → length s ≡ n * k → woven k (paddedChannels n s) ≡ s
 unfolding paddedChannels
-woven-split n k some few s l = woven-back n k s l (paddedChannels n s) (length-tab n (λ c. padded (channel n s c))) (split-at n k some s l few)
+woven-padded n k some few s l = woven-back n k s l (paddedChannels n s) (length-tab n (λ c. padded (channel n s c))) (padded-channels-at n k some s l few)
 
 -- ---- the groups of a whole list: n × frames samples
 mul-min : (w a b : ℕ) → w * min a b ≡ min (w * a) (w * b)
@@ -156,6 +157,11 @@ mul-min w a b =
       | yes h ↦ let e : min a b ≡ a = omega arith in ap (λ (x : ℕ). w * x) e ∙ omega (arith, mul-le-mul-left w h)
       | no h ↦ let e : min a b ≡ b = omega arith in let h′ : b ≤ a = omega arith in ap (λ (x : ℕ). w * x) e ∙ omega (arith, mul-le-mul-left w h′)
     ]
+
+-- a group that is there has from 1 to 512 active frames
+pub some-active : (frames : Frames) (g : ℕ) → g < groupsOf frames → 0 < active frames g
+unfolding active groupsOf
+some-active frames g l = omega arith
 
 pub active-low : (frames : Frames) (g : ℕ) → active frames g ≤ 512
 unfolding active

@@ -1,4 +1,5 @@
--- Laws of digits to any base, and of packing over the width.
+-- A run and its codes are one number, written to two bases: digits of a number, and the number of digits, undo each
+-- other, and so does packing, once over the width.
 use Prim.Native.Nat.{ℕ, zero, suc, _+_, _*_, _/_, _%_, _^_, _<_}
 use mathlib.Core.Path.{_≡_, refl, sym, ap, ap₂, _∙_, subst}
 use mathlib.Core.List.{List, [], _∷_, _++_}
@@ -21,7 +22,7 @@ pow-mul n i (suc j) = ap (λ (x : ℕ). n ^ x) (mul-suc i j) ∙ pow-add n (i * 
 -- ---- digits to the base B
 
 module _ (B : ℕ) where
-  pub length-digits : (n N : ℕ) → length (digits B n N) ≡ n
+  length-digits : (n N : ℕ) → length (digits B n N) ≡ n
   unfolding digits
   length-digits zero N = refl
   length-digits (suc n) N = ap suc (length-digits n (N / B))
@@ -64,7 +65,7 @@ module _ (B : ℕ) where
       ∙ ap (λ (y : ℕ). y / B ^ k) (digits-div (num B s) (h 0))
       ∙ num-drop s (λ i. h (suc i)) k
 
-  pub num-digits : 0 < B → (n N : ℕ) → num B (digits B n N) ≡ N % B ^ n
+  num-digits : 0 < B → (n N : ℕ) → num B (digits B n N) ≡ N % B ^ n
   unfolding num digits
   num-digits pos zero N = sym (ap (λ (x : ℕ). N % x) (pow-zero B) ∙ mod-one N)
   num-digits pos (suc n) N =
@@ -83,7 +84,7 @@ there-and-back B C n xs h pos e =
     ∙ digits-num B xs h
 
 -- 512 codes of width b hold what 64 b bytes hold
-pub same-room : (b : ℕ) → (2 ^ b) ^ 512 ≡ 256 ^ (64 * b)
+same-room : (b : ℕ) → (2 ^ b) ^ 512 ≡ 256 ^ (64 * b)
 same-room b = sym (pow-mul 2 b 512) ∙ ap (λ (x : ℕ). 2 ^ x) (omega arith) ∙ pow-mul 2 8 (64 * b)
 
 pub unpack-pack : (b : ℕ) (cs : List ℕ) → length cs ≡ 512 → Below (2 ^ b) cs → codesIn b (runOf b cs) ≡ cs

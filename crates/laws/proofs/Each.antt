@@ -1,4 +1,5 @@
--- What holds of each element of lists holds of their parts, and of them joined; a test of each element, one after another.
+-- What holds of each element of lists holds of their parts, and of them joined; a test of each element, one after
+-- another.
 use Prim.Native.Nat.{ℕ, zero, suc, _+_, _<_, _≤_}
 use mathlib.Core.Path.{_≡_, sym, ap, ap₂, _∙_}
 use mathlib.Core.Bool.{Bool, true, false, _&&_}

@@ -1,4 +1,5 @@
--- Mid and side of samples, and back.
+-- Mid and side of samples of equal parity are exact halves: twice each is the sum or the difference, so that left and
+-- right come back, and neither leaves the samples' range.
 use mathlib.Core.Path.{_≡_, refl, sym, ap, ap₂, _∙_, subst}
 use mathlib.Core.Bool.{Bool, true, _&&_}
 use mathlib.Core.List.{List, [], _∷_, _++_}

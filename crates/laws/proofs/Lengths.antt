@@ -1,4 +1,5 @@
--- How much reading writes.
+-- How much reading writes: a block is 512 samples, of each group the active ones are woven, and these add up to all
+-- frames.
 use Prim.Native.Nat.{ℕ, zero, suc, _+_, _-_, _*_, _/_, _≤_, _<_, min}
 use mathlib.Core.Path.{_≡_, refl, sym, ap, ap₂, _∙_}
 use mathlib.Core.Bool.{Bool, true, false, cond}

@@ -1,4 +1,4 @@
--- Given bytes, compared as one number.
+-- Given bytes, compared as one number: digits below the base are equal where the numbers that they are, are.
 use Prim.Native.Nat.{ℕ, zero, suc, _+_, _*_, _/_, _%_, _<_, _≤_}
 use mathlib.Core.Path.{_≡_, refl, sym, ap, ap₂, _∙_}
 use mathlib.Core.Bool.{Bool, true, false, _&&_}

@@ -1,4 +1,4 @@
--- What holds of a file that opens.
+-- What holds of a file that opens: each check that passed, read backwards.
 use Prim.Native.Nat.{ℕ, _+_, _-_, _*_, _≤_, _<_}
 use mathlib.Core.Path.{_≡_, subst}
 use mathlib.Core.Bool.{Bool, true, false, _||_}

@@ -1,4 +1,5 @@
--- Runs put into lent memory: one behind another, apart, at the front, and by a part that was lent.
+-- Runs put into lent memory: one behind another, apart, at the front, and by a part that was lent. Each touches its
+-- own places only.
 use Prim.Native.Nat.{ℕ, suc, _+_, _-_, _≤_}
 use mathlib.Core.Path.{_≡_, refl, sym, ap, ap₂, _∙_}
 use mathlib.Core.List.{List, [], _∷_, _++_, append-assoc, append-nil}

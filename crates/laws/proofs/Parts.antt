@@ -1,4 +1,4 @@
--- Laws of lists in parts.
+-- Lists by their parts: a part that was laid behind others is found where their lengths add up to.
 use Prim.Native.Nat.{ℕ, zero, suc, _+_, _-_, _*_, _≤_, _<_}
 use mathlib.Core.Path.{_≡_, refl, sym, ap, ap₂, _∙_, subst}
 use mathlib.Core.List.{List, [], _∷_, _++_, append-assoc, append-nil}
@@ -7,8 +7,8 @@ use native.Mathlib.Omega.{arith}
 use native.Mathlib.Nat.{mul-suc, mul-zero, mul-comm}
 use native.Mathlib.Decide.{decLt}
 use native.Mathlib.Numerals.{add-one}
-use lib.ListN.{length, getD, take, drop, length-append, length-drop, List·getD-append}
-use lib.Seq.{take-at, drop-at, drop-cons, take-add, take-take, drop-drop, ext-getD, drop-append-add, drop-append-le, take-append-le, length-take-le, getD-append-add}
+use lib.ListN.{length, getD, set, take, drop, length-append, length-drop, List·getD-append}
+use lib.Seq.{take-suc-set, drop-set-lt, append-snoc, take-at, drop-at, drop-cons, take-add, take-take, drop-drop, ext-getD, drop-append-add, drop-append-le, take-append-le, length-take-le, getD-append-add}
 use Rattle.format.specs.Lists.{tab, joined, from}
 
 pub below-suc : (k n : ℕ) → k < suc n → (k ≡ n) ⊎ (k < n)
@@ -18,6 +18,13 @@ module _ {A : Type 0} where
   -- the element at k, and those after it
   pub left-now : (l : List A) (k : ℕ) (d : A) → k < length l → drop k l ≡ getD l k d ∷ drop (k + 1) l
   left-now l k d h = rw (add-one, ← drop-cons l k d h)
+
+  -- a loop that stores one element a turn, from the front: one more is done, and what is left is as it was
+  pub done-more : (l ys : List A) (k : ℕ) (v : A) → k < length l → take (k + 1) (set l k v) ++ ys ≡ take k l ++ (v ∷ ys)
+  done-more l ys k v h = rw (add-one, take-suc-set l k v h) (append-snoc (take k l) v ys)
+
+  pub left-more : (l : List A) (k : ℕ) (v : A) → drop (k + 1) (set l k v) ≡ drop (k + 1) l
+  left-more l k v = drop-set-lt (k + 1) l k v (omega arith)
 
   pub length-tab : (n : ℕ) (f : ℕ → A) → length (tab n f) ≡ n
   unfolding tab
@@ -38,7 +45,7 @@ module _ {A : Type 0} where
   pub is-tab : (z : A) (n : ℕ) (f : ℕ → A) (l : List A) → length l ≡ n → ((k : ℕ) → k < n → getD l k z ≡ f k) → tab n f ≡ l
   is-tab z n f l e h = sym (ext-getD z l (tab n f) (e ∙ sym (length-tab n f)) (λ k p. h k (omega arith) ∙ sym (getD-tab n f k z (omega arith))))
 
-  pub length-joined : (P : ℕ → List A) (n : ℕ) → length (joined P (suc n)) ≡ length (joined P n) + length (P n)
+  length-joined : (P : ℕ → List A) (n : ℕ) → length (joined P (suc n)) ≡ length (joined P n) + length (P n)
   unfolding joined
   length-joined P n = length-append (joined P n) (P n)
 

@@ -1,4 +1,4 @@
--- What holds of a block and of a group whose checks pass.
+-- What holds of a block and of a group whose checks pass: each check, read backwards.
 use Prim.Native.Nat.{ℕ, _≤_, _<_}
 use mathlib.Core.Path.{_≡_, subst}
 use mathlib.Core.Bool.{Bool, true, false, not, _&&_}

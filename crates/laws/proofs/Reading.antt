@@ -1,4 +1,5 @@
--- What code reads and what a loop over checks says: the laws that functions cite.
+-- What code reads and what a loop over checks says: the laws that functions cite. A number's bytes are its digits to
+-- 256, and one more check is the next of the definition's.
 use Prim.Native.Nat.{ℕ, zero, suc, _+_, _*_, _^_, _≤_, _<_}
 use mathlib.Core.Path.{_≡_, refl, sym, ap, _∙_, subst}
 use mathlib.Core.List.{List}
@@ -23,7 +24,7 @@ pub number-lt : (i n : ℕ) (s : List ℕ) → Below 256 s → numAt i n s < 256
 unfolding numAt from
 number-lt i n s byte = num-take-lt 256 n (drop i s) (each-drop (λ x. x < 256) 0 (zero-lt-suc 255) i s byte)
 
-pub number-more : (i n : ℕ) (s : List ℕ) → i < length s → numAt i (suc n) s ≡ numAt (i + 1) n s * 256 + getD s i 0
+number-more : (i n : ℕ) (s : List ℕ) → i < length s → numAt i (suc n) s ≡ numAt (i + 1) n s * 256 + getD s i 0
 unfolding numAt from num
 number-more i n s h = rw (drop-cons s i 0 h, add-one)
 
@@ -49,7 +50,7 @@ number-4 i s h =
     omega (arith, a, rw e2 at b, rw e3 at c)
 
 -- a number of m + n bytes, from its parts
-pub numbers-meet : (m n i : ℕ) (s : List ℕ) → i + m ≤ length s → numAt i (m + n) s ≡ numAt i m s + 256 ^ m * numAt (i + m) n s
+numbers-meet : (m n i : ℕ) (s : List ℕ) → i + m ≤ length s → numAt i (m + n) s ≡ numAt i m s + 256 ^ m * numAt (i + m) n s
 numbers-meet zero n i s h =
     let e : i + 0 ≡ i = omega arith in
     let z : 0 + n ≡ n = omega arith in

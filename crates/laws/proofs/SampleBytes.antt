@@ -1,4 +1,4 @@
--- Samples as bytes, and back: the host boundary loses nothing.
+-- Samples as bytes, and back: the host boundary loses nothing, as 4 bytes hold a code of 32 bits.
 use Prim.Native.Nat.{ℕ, zero, suc, _+_, _*_, _/_, _^_, _<_, _≤_}
 use mathlib.Core.Path.{_≡_, sym, ap, ap₂, _∙_, subst}
 use mathlib.Core.List.{List, [], _++_, append-nil, append-assoc}

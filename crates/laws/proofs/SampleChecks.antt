@@ -1,4 +1,5 @@
--- What passed checks 30 to 33 tell, for every writer.
+-- What passed checks tell, for every writer: 30, of what it is given, and 31 to 33, whole frames, values that the
+-- depth holds, and no more frames than 32 bits count.
 use Prim.Native.Nat.{ℕ, _*_, _/_, _%_, _≤_, _<_}
 use mathlib.Core.Path.{_≡_, refl, sym, ap, _∙_, fun-ext}
 use mathlib.Core.Bool.{Bool, true}

@@ -1,4 +1,5 @@
--- The signed reading of a code of b bits, and back, once over the width.
+-- The signed reading of a code of b bits, and back, once over the width: half of the codes mean themselves, the
+-- others 2 ^ b less, so that each number that b bits hold has one code.
 use Prim.Native.Nat.{ℕ, zero, suc, _+_, _-_, _*_, _^_, _≤_, _<_}
 use mathlib.Core.Path.{_≡_, refl, sym, ap, ap₂, _∙_, subst}
 use mathlib.Core.Bool.{Bool, true, false, _&&_, cond}
@@ -64,7 +65,7 @@ value-code b l (negsuc n) h =
     value-neg b (2 ^ b - suc n) (omega (arith, e)) (omega (arith, pow-pos b)) ∙ ap negsuc d
 
 -- the codes of numbers that b bits hold
-pub codes-below : (b : ℕ) → 1 ≤ b → (vs : List ℤ) → AllHold b vs → Below (2 ^ b) (map (codeOf b) vs)
+codes-below : (b : ℕ) → 1 ≤ b → (vs : List ℤ) → AllHold b vs → Below (2 ^ b) (map (codeOf b) vs)
 codes-below b l vs h i = subst (λ (x : ℕ). x < 2 ^ b) (sym (List·getD-map (codeOf b) vs i (pos 0))) (code-lt b l (getD vs i (pos 0)) (h i))
 
 map-back : (b : ℕ) → 1 ≤ b → (vs : List ℤ) → AllHold b vs → map (value b) (map (codeOf b) vs) ≡ vs

@@ -1,4 +1,4 @@
--- Two channels as mid and side: they lie in the same range, and left and right come back.
+-- Two channels as mid and side: they lie in the same range, and left and right come back, frame by frame.
 use Prim.Native.Nat.{ℕ, zero, suc, _*_, _+_, _/_, _≤_, _<_}
 use mathlib.Core.Path.{_≡_, refl, sym, ap₂, _∙_}
 use mathlib.Core.Bool.{Bool, true, false, _&&_}
@@ -193,6 +193,6 @@ channel-count : (n : ℕ) (s : List ℤ) (c : ℕ) → length (channel n s c) �
 unfolding channel
 channel-count n s c = length-tab (length s / n) (λ i. getD s (i * n + c) (pos 0))
 
-pub parity-split : (s : List ℤ) → parity (paddedChannels 2 s) ≡ parity (unwoven 2 s)
+pub parity-padded : (s : List ℤ) → parity (paddedChannels 2 s) ≡ parity (unwoven 2 s)
 unfolding parity paddedChannels unwoven tab
-parity-split s = even-same (channel 2 s 0) (channel 2 s 1) (channel-count 2 s 0 ∙ sym (channel-count 2 s 1))
+parity-padded s = even-same (channel 2 s 0) (channel 2 s 1) (channel-count 2 s 0 ∙ sym (channel-count 2 s 1))

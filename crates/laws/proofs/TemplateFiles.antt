@@ -1,4 +1,5 @@
--- What the passed checks of a template tell, and that the new file is as long.
+-- What the passed checks of a template tell; as each new group is as long as the template's, the new file is too, and
+-- the table's entries stay true.
 use Prim.Native.Nat.{ℕ, zero, suc, _+_, _-_, _*_, _/_, _≤_, _<_}
 use mathlib.Core.Path.{_≡_, refl, sym, ap, _∙_}
 use mathlib.Core.List.{List, _++_}
@@ -13,10 +14,8 @@ use borrow.Author.Tests.{ltb-false, leb-false, eqb-true, not-false}
 use mathlib.Core.Bool.{true}
 use Rattle.format.specs.Lists.{joined}
 use Rattle.format.specs.Header.{isSignature, fieldsOf, groupsOf, entry, groupBytes}
-use Rattle.format.specs.Units.{active}
 use Rattle.format.specs.Encoding.{groupIn, checkSamples, framesOf}
 use Rattle.format.specs.Reencoding.{checkReencodeGroup, reencodedGroup, checkSame, checkBounds, checkRising, checkTemplate, checkReencoder, checkReencode, reencodedFile}
-use Rattle.format.specs.declared.units.Frames.{Frames}
 use Rattle.format.specs.declared.refusals.Checked.the-variants.{Fine}
 use Rattle.format.specs.declared.settings.PcmSpec.{PcmSpec}
 use Rattle.format.specs.declared.answers.Fields.{Fields}
@@ -50,15 +49,15 @@ module _ (p : PcmSpec) (s : List ℤ) (t : List ℕ) (template : checkTemplate p
   unfolding checkTemplate
   signed-ok = not-false _ (passed _ _ (first-fine _ _ (others-fine _ _ template)))
 
-  pub same-ok : checkSame p (framesOf p s) h ≡ Fine
+  same-ok : checkSame p (framesOf p s) h ≡ Fine
   unfolding checkTemplate
   same-ok = first-fine _ _ (others-fine _ _ (others-fine _ _ template))
 
-  pub bounds-ok : checkBounds h (length t) ≡ Fine
+  bounds-ok : checkBounds h (length t) ≡ Fine
   unfolding checkTemplate
   bounds-ok = first-fine _ _ (others-fine _ _ (others-fine _ _ (others-fine _ _ template)))
 
-  pub rising-ok : checkRising t h ≡ Fine
+  rising-ok : checkRising t h ≡ Fine
   unfolding checkTemplate
   rising-ok = others-fine _ _ (others-fine _ _ (others-fine _ _ (others-fine _ _ template)))
 
@@ -113,7 +112,7 @@ module _ (p : PcmSpec) (s : List ℤ) (t : List ℕ) (template : checkTemplate p
   pub entry-within : (k : ℕ) → k ≤ count → h .start + entry t h k ≤ length t
   entry-within k l = omega (arith, rising (entry t h) count entry-rises k l, entry-last, end-ok)
 
-  pub old-length : (g : ℕ) → g < count → length (groupBytes t h g) ≡ entry t h (g + 1) - entry t h g
+  old-length : (g : ℕ) → g < count → length (groupBytes t h g) ≡ entry t h (g + 1) - entry t h g
   unfolding groupBytes
   old-length g l =
       length-from (h .start + entry t h g) (entry t h (g + 1) - entry t h g) t (omega (arith, entry-within (g + 1) (omega arith), entry-rises g l))
@@ -121,10 +120,6 @@ module _ (p : PcmSpec) (s : List ℤ) (t : List ℕ) (template : checkTemplate p
   -- ---- and so did the samples: s is whole frames, as many as the template has
   pub all-frames : checkSamples p s ≡ Fine → length s ≡ h .channels * h .frames .0
   all-frames samples = rw (channels-are, frames-are) (frames-ok p s samples)
-
-pub some-active : (frames : Frames) (g : ℕ) → g < groupsOf frames → 1 ≤ active frames g
-unfolding active groupsOf
-some-active frames g l = omega arith
 
 -- ---- re-encoding accepts s with the template t
 module _ (p : PcmSpec) (s : List ℤ) (t : List ℕ) (ok : checkReencode p s t ≡ Fine) where

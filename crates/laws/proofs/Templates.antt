@@ -1,4 +1,4 @@
--- What passed checks of a template's block and group tell, and that the new ones are as long.
+-- What passed checks of a template's block and group tell; the bits word stays, so that the new ones are as long.
 use Prim.Native.Nat.{ℕ, zero, suc, _+_, _*_, _≤_, _<_}
 use mathlib.Core.Path.{_≡_, refl, ap, _∙_, subst}
 use mathlib.Core.Bool.{Bool, true, false, cond, not, _&&_}
@@ -24,7 +24,7 @@ use Rattle.laws.proofs.Parts.{length-from}
 use Rattle.laws.proofs.Checks.{pass, _and-then_, first-fine, others-fine, passed, order-fine}
 use Rattle.laws.proofs.Digits.{length-le}
 use Rattle.laws.proofs.Signs.{AllHold, length-packing, every-holds}
-use Rattle.laws.proofs.Channels.{plain-long}
+use Rattle.laws.proofs.Channels.{unwoven-long}
 use Rattle.laws.proofs.Stereo.{both-long}
 
 -- ---- what a passed check of a template's block tells
@@ -117,7 +117,7 @@ module _ (depth n : ℕ) (bs : List ℕ) (s : List ℤ) (fine : checkReencodeGro
   unfolding checkReencodeGroup
   stereo-ok = passed _ _ (first-fine _ _ (others-fine _ _ fine))
 
-  pub parity-ok : (midBit bs && not (parity (unwoven n s))) ≡ false
+  parity-ok : (midBit bs && not (parity (unwoven n s))) ≡ false
   unfolding checkReencodeGroup
   parity-ok = passed _ _ (first-fine _ _ (others-fine _ _ (others-fine _ _ fine)))
 
@@ -152,7 +152,7 @@ module _ (depth n : ℕ) (bs : List ℕ) (s : List ℤ) (fine : checkReencodeGro
   active-long k some z l = by (midBit bs) refl
     where
       each : (c : ℕ) → c < n → length (getD (unwoven n z) c []) ≡ k
-      each = plain-long n k some z l
+      each = unwoven-long n k some z l
 
       by : (t : Bool) → midBit bs ≡ t → (c : ℕ) → c < n → length (getD (cond t (midSide (unwoven n z)) (unwoven n z)) c []) ≡ k
       by false m c q = each c q

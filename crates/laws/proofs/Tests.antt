@@ -1,4 +1,4 @@
--- Facts of tests: what holds of `_&&_` and `_||_`.
+-- Tests by cases: what `_&&_` and `_||_` say of the two tests that they join.
 use Prim.Native.Nat.{ℕ}
 use mathlib.Core.Path.{_≡_, refl}
 use mathlib.Core.Bool.{Bool, true, false, _&&_, _||_}

@@ -44,7 +44,7 @@ module _ (m n : ℕ) (f : m < 2 ^ 39) (g : n < 2 ^ 39) where
   sub-by true e = omega (arith, ltb-true m n e)
   sub-by false e = omega (arith, ltb-false m n e)
 
-  pub up-subℕ : up (subℕ m n) + n ≡ 2 ^ 40 + m
+  up-subℕ : up (subℕ m n) + n ≡ 2 ^ 40 + m
   up-subℕ = sub-by (ltb m n) refl
 
 pub up-add : (a b : ℤ) → mag a < 2 ^ 38 → mag b < 2 ^ 38 → up (a +ℤ b) + 2 ^ 40 ≡ up a + up b

@@ -1,4 +1,5 @@
--- The width that differences take: the least from 2 that holds all of them, where that is under 32; and the width of a block that is read.
+-- The width that differences take: the least from 2 that holds all of them, where that is under 32; and the width of
+-- a block that is read.
 use Prim.Native.Nat.{ℕ, zero, suc, _+_, _≤_, _<_}
 use mathlib.Core.Path.{_≡_, refl, sym, subst}
 use mathlib.Core.Bool.{Bool, true, false, cond}

@@ -1,4 +1,5 @@
--- Signed numbers and their 32 bits; sums and differences wrapped at 32 bits.
+-- Signed numbers and their 32 bits: the bits of a sum or difference are those of the bits' sum or difference, modulo
+-- 2 ^ 32, so that both wrap in the same way.
 use mathlib.Core.Path.{_≡_, refl, sym, ap, ap₂, _∙_, subst}
 use mathlib.Core.Bool.{Bool, true, false, cond}
 use Prim.Native.Nat.{ℕ, zero, suc, _+_, _-_, _%_, _^_, _<_}
@@ -22,7 +23,7 @@ module _ (m n : ℕ) (f : m < 2 ^ 32) (g : n < 2 ^ 32) where
   low-by true e = omega (arith, ltb-true m n e)
   low-by false e = omega (arith, ltb-false m n e)
 
-  pub low-sub : (m + (2 ^ 32 - n)) % 2 ^ 32 ≡ low32 (subℕ m n)
+  low-sub : (m + (2 ^ 32 - n)) % 2 ^ 32 ≡ low32 (subℕ m n)
   low-sub = low-by (ltb m n) refl
 
 pub add-bits : (a b : ℤ) → SFits w32 a → SFits w32 b → (ofZ w32 a + ofZ w32 b) % 2 ^ 32 ≡ low32 (a +ℤ b)
@@ -32,11 +33,11 @@ add-bits (negsuc m) (pos n) f g = rw (← low-sub n (suc m) (omega (arith, g .sf
 add-bits (negsuc m) (negsuc n) f g = omega (arith, f .sfits, g .sfits)
 
 -- laws of the wrapped numbers
-pub low-lt : (z : ℤ) → low32 z < 2 ^ 32
+low-lt : (z : ℤ) → low32 z < 2 ^ 32
 low-lt (pos n) = omega arith
 low-lt (negsuc n) = omega arith
 
-pub low-fits : (z : ℤ) → SFits w32 z → low32 z ≡ ofZ w32 z
+low-fits : (z : ℤ) → SFits w32 z → low32 z ≡ ofZ w32 z
 low-fits (pos n) f = omega (arith, f .sfits)
 low-fits (negsuc n) f = omega (arith, f .sfits)
 
@@ -44,7 +45,7 @@ low-fits (negsuc n) f = omega (arith, f .sfits)
 pub word-is : (c : ℕ) → c < 2 ^ 32 → value 32 c ≡ toZ w32 c
 word-is c h = value-is 32 c h
 
-pub wrap-word : (z : ℤ) → wrap32 z ≡ toZ w32 (low32 z)
+wrap-word : (z : ℤ) → wrap32 z ≡ toZ w32 (low32 z)
 wrap-word z = word-is (low32 z) (low-lt z)
 
 pub wrap-fits : (z : ℤ) → SFits w32 z → wrap32 z ≡ z
@@ -54,10 +55,10 @@ pub wrap-is : (z : ℤ) → SFits w32 (wrap32 z)
 wrap-is z = subst (SFits w32) (sym (wrap-word z)) (toZ-fits w32 (low32 z) (record { fits = low-lt z }))
 
 -- the bits of a wrapped number
-pub wrap-bits : (z : ℤ) → ofZ w32 (wrap32 z) ≡ low32 z
+wrap-bits : (z : ℤ) → ofZ w32 (wrap32 z) ≡ low32 z
 wrap-bits z = ap (ofZ w32) (wrap-word z) ∙ ofZ-toZ w32 _ (record { fits = low-lt z })
 
-pub sub-bits-back : (a b : ℤ) → SFits w32 a → SFits w32 b → (ofZ w32 b + low32 (a -ℤ b)) % 2 ^ 32 ≡ ofZ w32 a
+sub-bits-back : (a b : ℤ) → SFits w32 a → SFits w32 b → (ofZ w32 b + low32 (a -ℤ b)) % 2 ^ 32 ≡ ofZ w32 a
 sub-bits-back (pos m) (pos zero) f g = omega (arith, f .sfits, g .sfits)
 sub-bits-back (pos m) (pos (suc n)) f g = rw (← low-sub m (suc n) (omega (arith, f .sfits)) (omega (arith, g .sfits))) (omega (arith, f .sfits, g .sfits))
 sub-bits-back (pos m) (negsuc n) f g = omega (arith, f .sfits, g .sfits)

@@ -25,12 +25,12 @@ unfoldable pub sum : (ℕ → ℕ) → ℕ → ℕ
 sum f zero = 0
 sum f (suc n) = sum f n + f n
 
-pub length-sum : {A : Type 0} (P : ℕ → List A) (n : ℕ) → length (joined P n) ≡ sum (λ k. length (P k)) n
+length-sum : {A : Type 0} (P : ℕ → List A) (n : ℕ) → length (joined P n) ≡ sum (λ k. length (P k)) n
 unfolding joined sum
 length-sum P zero = refl
 length-sum P (suc n) = length-append (joined P n) (P n) ∙ ap (λ (x : ℕ). x + length (P n)) (length-sum P n)
 
-pub sum-cong : (f g : ℕ → ℕ) → ((k : ℕ) → f k ≡ g k) → (n : ℕ) → sum f n ≡ sum g n
+sum-cong : (f g : ℕ → ℕ) → ((k : ℕ) → f k ≡ g k) → (n : ℕ) → sum f n ≡ sum g n
 unfolding sum
 sum-cong f g h zero = refl
 sum-cong f g h (suc n) = ap₂ (λ (x y : ℕ). x + y) (sum-cong f g h n) (h n)

@@ -17,8 +17,8 @@ use Rattle.format.specs.declared.refusals.Checked.the-variants.{Fine, No}
 use Rattle.format.specs.declared.answers.Answer.{Answer}
 use Rattle.laws.proofs.Checks.{first-fine, has-room}
 use Rattle.laws.proofs.Lengths.{decode-count}
-use Rattle.lent.proofs.Laws.{length-lent}
-use Rattle.lent.proofs.Outcome.{same-bytes, bytes-over}
+use Rattle.lent_samples.proofs.Laws.{length-lent}
+use Rattle.lent_samples.proofs.Outcome.{same-bytes, bytes-over}
 
 pub told-open : (s : List ℕ) (a : Answer) (r : ℕ) → r ≡ result (a .outcome) → a ≡ openOf s → r ≡ hostOpen s
 unfolding hostOpen

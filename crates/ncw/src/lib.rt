@@ -3,10 +3,10 @@ use format::Outcome;
 use format::PcmSpec;
 use format::Refusal;
 use format::StereoMode;
-use lent::Container;
+use lent_samples::Container;
 ghost use mathlib.Core.Path.{_≡_};
 ghost use Prim.Native.Nat.{_*_, _<_, _^_};
-ghost use lib.ListN.{length};
+ghost use Rattle.format.specs.declared.settings.PcmSpec.{PcmSpec};
 ghost use Rattle.format.specs.declared.units.Samples.{Samples};
 ghost use Rattle.format.specs.declared.answers.Outcome.the-variants.{Read};
 ghost use Rattle.format.specs.Boundary.{modeOf, result};
@@ -29,6 +29,7 @@ fn result(outcome: Outcome) -> u64
     }
 }
 
+// Opens a file: how many bytes `ncw_decode` would write.
 #[no_mangle]
 pub extern "C" fn ncw_open(file: &[u8]) -> u64
     ensures { λ r. ⌜ HostOpens (now (file .entry)) r ⌝ }
@@ -38,6 +39,7 @@ pub extern "C" fn ncw_open(file: &[u8]) -> u64
     result(outcome)
 }
 
+// Decodes a file into `samples`.
 #[no_mangle]
 pub extern "C" fn ncw_decode(file: &[u8], samples: &mut [u8]) -> u64
     ensures { λ r. ⌜ HostDecodes (now (file .entry)) (now (samples .entry)) r (now (samples .exit)) ⌝ }
@@ -47,7 +49,7 @@ pub extern "C" fn ncw_decode(file: &[u8], samples: &mut [u8]) -> u64
     result(outcome)
 }
 
-// 0 Auto, 1 Direct, 2 MidSide.
+// The modes by number: 0 Auto, 1 Direct, 2 MidSide.
 pub fn mode_of(mode: u32) -> StereoMode
     ensures { λ r. ⌜ r ≡ modeOf mode ⌝ }
 {
@@ -58,6 +60,7 @@ pub fn mode_of(mode: u32) -> StereoMode
     }
 }
 
+// Encodes samples into `file`. 38: the mode is unknown; 39: the bytes are no whole samples.
 #[no_mangle]
 pub extern "C" fn ncw_encode(
     samples: &[u8],
@@ -67,7 +70,9 @@ pub extern "C" fn ncw_encode(
     mode: u32,
     file: &mut [u8],
 ) -> u64
-    ensures { λ r. ⌜ HostEncodes (now (samples .entry)) (record { channels = channels; «bits_per_sample» = depth; «sample_rate» = rate }) mode (now (file .entry)) r (now (file .exit)) ⌝ }
+    ensures { λ r. ⌜ (let spec : PcmSpec =
+        record { channels = channels; «bits_per_sample» = depth; «sample_rate» = rate } in
+        HostEncodes (now (samples .entry)) spec mode (now (file .entry)) r (now (file .exit))) ⌝ }
 {
     if 3 <= mode {
         return result(Outcome::Refused(Refusal::UnknownMode));
@@ -85,6 +90,7 @@ pub extern "C" fn ncw_encode(
     result(outcome)
 }
 
+// Re-encodes samples with a template into `file`.
 #[no_mangle]
 pub extern "C" fn ncw_reencode(
     samples: &[u8],
@@ -94,7 +100,10 @@ pub extern "C" fn ncw_reencode(
     template: &[u8],
     file: &mut [u8],
 ) -> u64
-    ensures { λ r. ⌜ HostReencodes (now (samples .entry)) (record { channels = channels; «bits_per_sample» = depth; «sample_rate» = rate }) (now (template .entry)) (now (file .entry)) r (now (file .exit)) ⌝ }
+    ensures { λ r. ⌜ (let spec : PcmSpec =
+        record { channels = channels; «bits_per_sample» = depth; «sample_rate» = rate } in
+        let lent = now (file .entry) in
+        HostReencodes (now (samples .entry)) spec (now (template .entry)) lent r (now (file .exit))) ⌝ }
 {
     if samples.len() % 4 != 0 {
         return result(Outcome::Refused(Refusal::SampleBytes));

@@ -1,3 +1,4 @@
+// The program that document 01 adds: what opening says of standard input.
 fn main() {
-    report::open_input();
+    ncw_open_print::print_opening(libc::STDIN_FILENO);
 }

@@ -1,4 +1,5 @@
--- The first block, which is read where there is a group: g is the count of groups, r the file from the data offset on.
+-- The first block, which is read where there is a group: g is the count of groups. Opening's other checks leave room
+-- for its header.
 use Prim.Native.Nat.{ℕ, _+_, _-_, _/_, _%_, _≤_}
 use mathlib.Core.Path.{_≡_, sym, ap, _∙_}
 use mathlib.Core.Bool.{Bool, true, false}

@@ -16,6 +16,7 @@ ghost use Rattle.format.specs.Opening.{checkFirst, formatOf, checkOpen, headerO
 ghost use Rattle.format.specs.Promises.{Opens};
 ghost use Rattle.format.specs.declared.refusals.Checked.the-variants.{Fine};
 
+// The refusal of the first block, where there is a group. 3: block signature.
 fn check_first(s: &[u8], h: Fields) -> Checked
     requires { ⌜ ((groupsOf (h .frames) ≡ 0 → ⊥) → h .start + 16 ≤ length (now s)) ⌝ }
     ensures { λ r. ⌜ r ≡ checkFirst (now (s .entry)) h ⌝ }
@@ -31,7 +32,7 @@ fn check_first(s: &[u8], h: Fields) -> Checked
     Checked::Fine
 }
 
-// Every refusal of opening, in order.
+// Every refusal of opening, in document 01's order.
 pub fn check_open(s: &[u8]) -> Checked
     ensures { λ r. ⌜ r ≡ checkOpen (now (s .entry)) ⌝ }
 {
@@ -54,7 +55,7 @@ pub fn check_open(s: &[u8]) -> Checked
     check_first(s, h)
 }
 
-// The format that the first block's flags give.
+// The format of an opened file, which its first block's flags give; without groups PCM.
 pub fn format_of(s: &[u8], h: Fields) -> SampleFormat
     requires { ⌜ (checkOpen (now s) ≡ Fine) × (h ≡ fieldsOf (now s)) ⌝ }
     ensures { λ r. ⌜ r ≡ formatOf (now (s .entry)) h ⌝ }
@@ -72,7 +73,7 @@ pub fn format_of(s: &[u8], h: Fields) -> SampleFormat
     }
 }
 
-// Where group k begins, and where group k - 1 ends.
+// Where in an opened file group k begins, and where group k - 1 ends.
 pub fn offset_of(file: &[u8], h: Fields, k: u32) -> usize
     requires { ⌜ (checkOpen (now file) ≡ Fine) × (h ≡ fieldsOf (now file)) × (k ≤ groupsOf (h .frames)) ⌝ }
     ensures { λ r. ⌜ r ≡ h .start + entry (now (file .entry)) h k ⌝ }
@@ -80,6 +81,7 @@ pub fn offset_of(file: &[u8], h: Fields, k: u32) -> usize
     h.start as usize + header::entry_at(file, h, k) as usize
 }
 
+// What opening finds in a file that it does not refuse.
 fn header_of(s: &[u8]) -> Header
     requires { ⌜ checkOpen (now s) ≡ Fine ⌝ }
     ensures { λ r. ⌜ r ≡ headerOf (now (s .entry)) ⌝ }
@@ -99,6 +101,7 @@ fn header_of(s: &[u8]) -> Header
     }
 }
 
+// Opens a file: the header's numbers, the group count and the format, or by what it is refused.
 pub fn open(file: &[u8]) -> Answer
     ensures { λ r. ⌜ Opens (now (file .entry)) r ⌝ }
 {

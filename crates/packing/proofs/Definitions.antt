@@ -1,4 +1,4 @@
--- The least width, one width at a time; the differences, one at a time.
+-- The least width, one width at a time; the differences, one at a time: each definition, unfolded once.
 use Prim.Native.Nat.{ℕ, suc, _+_, _-_, _<_, _≤_}
 use mathlib.Core.Path.{_≡_, ap, _∙_}
 use mathlib.Core.Bool.{Bool, true, false, cond}

@@ -1,4 +1,5 @@
--- numbers by their digits, and codes of narrower widths; a code put after others; the codes of a run; what a refusal leaves
+-- numbers by their digits, and codes of narrower widths; a code put after others; the codes of a run; what a refusal
+-- leaves
 pub mod Numbers
 pub mod Steps
 pub mod Run

@@ -19,7 +19,7 @@ pow-place at h = pow-add 2 (at * 8) h ∙ ap (λ (x : ℕ). x * 2 ^ h) (ap (λ (
 
 -- ---- digits
 module _ (B : ℕ) where
-  pub num-append : (xs ys : List ℕ) → num B (xs ++ ys) ≡ num B ys * B ^ length xs + num B xs
+  num-append : (xs ys : List ℕ) → num B (xs ++ ys) ≡ num B ys * B ^ length xs + num B xs
   unfolding num
   num-append [] ys = sym (add-zero (num B ys * B ^ 0) ∙ ap (λ (x : ℕ). num B ys * x) (pow-zero B) ∙ mul-one (num B ys))
   num-append (x ∷ xs) ys =

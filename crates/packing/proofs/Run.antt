@@ -21,7 +21,7 @@ use Rattle.format.specs.Packed.{runOf, packing}
 use Rattle.laws.proofs.Digits.{pow-mul, digits-num}
 use Rattle.laws.proofs.Signs.{Holds, every-holds, code-lt}
 use Rattle.bits.specs.Place.{Room}
-use Rattle.packing.specs.Place.{Open, Put, origin, end, written}
+use Rattle.packing.specs.Place.{Open, CodePut, origin, end, written}
 use Rattle.packing.specs.declared.PutCursor.{PutCursor}
 use Rattle.packing.proofs.Numbers.{num-take, low-code}
 
@@ -64,7 +64,7 @@ module _ (b : ℕ) (vs : List ℤ) where
   unfolding num
   done-none s c e = rw e (record { valid = record { held = zero-lt-suc 0; small = omega arith; whole = refl; inside = omega arith }; place = sym (mul-zero b); sofar = refl })
 
-  pub done-more : (s after : List ℕ) (c r : PutCursor) (k code : ℕ) → length vs ≡ 512 → k < 512 → code ≡ codeOf b (getD vs k (pos 0)) → Put s c code b after r → Done b vs s c k
+  pub done-more : (s after : List ℕ) (c r : PutCursor) (k code : ℕ) → length vs ≡ 512 → k < 512 → code ≡ codeOf b (getD vs k (pos 0)) → CodePut s c code b after r → Done b vs s c k
       → Done b vs after r (k + 1)
   done-more s after c r k code m l e p d =
       let cs = map (codeOf b) vs in

@@ -10,7 +10,7 @@ use lib.Arith.{digits-lt}
 use lib.Pow.{pow-add, pow-pos, pow-mono, shl-exact, shr-lt}
 use Rattle.format.specs.Numbers.{num, le}
 use Rattle.bits.specs.Place.{Room}
-use Rattle.packing.specs.Place.{Open, Put, end, written}
+use Rattle.packing.specs.Place.{Open, CodePut, end, written}
 use Rattle.packing.specs.declared.PutCursor.{PutCursor}
 use Rattle.packing.proofs.Numbers.{pow-place, num-stored}
 
@@ -49,7 +49,7 @@ module _ (s : List ℕ) (c : PutCursor) (code w : ℕ) (o : Open s c) (f : Room 
       ∙ above (c .acc) code (2 ^ c .have) (256 ^ c .at) (num 256 (take (c .at) s))
       ∙ ap (λ (x : ℕ). written s c + code * x) (sym (pow-place (c .at) (c .have)))
 
-  pub put-short : c .have + w < 32 → Put s c code w s (record { acc = sum; have = c .have + w; at = c .at })
+  pub put-short : c .have + w < 32 → CodePut s c code w s (record { acc = sum; have = c .have + w; at = c .at })
   put-short h =
       record {
         valid = record { held = subst (λ (x : ℕ). sum < 2 ^ x) (add-comm w (c .have)) sum-lt; small = h; whole = o .whole; inside = o .inside };
@@ -58,7 +58,7 @@ module _ (s : List ℕ) (c : PutCursor) (code w : ℕ) (o : Open s c) (f : Room 
       }
 
   pub put-long : (after : List ℕ) → 32 ≤ c .have + w → after ≡ sets s (c .at) (le 4 (sum % 2 ^ 32))
-      → Put s c code w after (record { acc = sum / 2 ^ 32; have = c .have + w - 32; at = c .at + 4 })
+      → CodePut s c code w after (record { acc = sum / 2 ^ 32; have = c .have + w - 32; at = c .at + 4 })
   put-long after h e =
       let room : c .at + 4 ≤ length s = omega (arith, o .whole, f .whole, f .fits) in
       let d : w + c .have ≡ c .have + w - 32 + 32 = omega arith in

@@ -1,4 +1,4 @@
--- Differences stored from the front.
+-- Differences stored from the front: those before i and those of the samples from i on are all of them.
 use Prim.Native.Nat.{ℕ, suc, _+_, _<_, _≤_}
 use mathlib.Core.Path.{_≡_, sym, ap, ap₂, _∙_}
 use mathlib.Core.List.{List, [], _∷_, _++_}

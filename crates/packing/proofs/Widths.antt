@@ -1,4 +1,4 @@
--- The largest magnitude of values: a width holds all where it holds that.
+-- The largest magnitude of values: a width holds all where it holds that, so one test tells what 512 would.
 use Prim.Native.Nat.{ℕ, _+_, _-_, _^_, _<_, _≤_}
 use mathlib.Core.Path.{_≡_, refl, sym, ap, _∙_}
 use mathlib.Core.Bool.{Bool, true, false, not, _&&_}

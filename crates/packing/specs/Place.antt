@@ -25,7 +25,7 @@ pub record Open (s : List ℕ) (c : PutCursor) : Type 0 where
   pub inside : c .at ≤ length s
 
 -- a code of width w is put: it stands above what was written, and the cursor past it
-pub record Put (s : List ℕ) (c : PutCursor) (code w : ℕ) (after : List ℕ) (r : PutCursor) : Type 0 where
+pub record CodePut (s : List ℕ) (c : PutCursor) (code w : ℕ) (after : List ℕ) (r : PutCursor) : Type 0 where
   pub valid : Open after r
   pub moved : end r ≡ end c + w
   pub adds : written after r ≡ written s c + code * 2 ^ end c

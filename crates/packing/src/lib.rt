@@ -3,31 +3,31 @@ use bits::pow2;
 use format::Checked;
 use format::Depth;
 use format::Refusal;
-use write_bytes::put_u32_le;
+use le_bytes::put_u32_le;
 ghost use mathlib.Core.Path.{_≡_};
-ghost use Prim.Native.Nat.{ℕ, _-_, _*_, _<_, _≤_, _^_};
+ghost use Prim.Native.Nat.{ℕ, _-_, _<_, _≤_, _^_};
 ghost use mathlib.Core.Bool.{true};
 ghost use lib.Dec.{ltb};
-ghost use lib.ListN.{length};
 ghost use lib.Signed.{mag};
 ghost use Rattle.format.specs.Lists.{every};
 ghost use Rattle.format.specs.Numbers.{codeOf, holds};
 ghost use Rattle.format.specs.Packed.{packing};
 ghost use Rattle.format.specs.Answers.{filled};
 ghost use Rattle.format.specs.Encoding.{differences, leastWidth};
-ghost use Rattle.bits.specs.Place.{Room};
-ghost use Rattle.packing.specs.Place.{Open, Put, origin, end};
+ghost use Rattle.bits.specs.Place.{WholeRun, Room};
+ghost use Rattle.packing.specs.Place.{Open, CodePut, origin, end};
 ghost use Rattle.packing.specs.Fit.{checkFit};
 
 // The twin of the reading cursor: bits that wait to be written, how many, and where the next four bytes go.
-pub struct PutCursor {
-    pub acc: u64,
-    pub have: u32,
-    pub at: usize,
+struct PutCursor {
+    acc: u64,
+    have: u32,
+    at: usize,
 }
 
 impl PutCursor {
-    pub fn start() -> Self
+    // The cursor before the first code: no bit waits.
+    fn start() -> Self
         ensures { λ r. ⌜ r ≡ origin ⌝ }
     {
         Self {
@@ -38,9 +38,9 @@ impl PutCursor {
     }
 
     // A code of `bits` bits put after those before, and the cursor after it.
-    pub fn put(self, run: &mut [u8], code: u64, bits: u32) -> PutCursor
+    fn put(self, run: &mut [u8], code: u64, bits: u32) -> PutCursor
         requires { ⌜ Open (now run) self × Room (now run) (end self) bits × (code < 2 ^ bits) ⌝ }
-        ensures { λ r. ⌜ Put (now (run .entry)) self code bits (now (run .exit)) r ⌝ }
+        ensures { λ r. ⌜ CodePut (now (run .entry)) self code bits (now (run .exit)) r ⌝ }
     {
         let at = self.at;
         let acc = self.acc + (code << self.have);
@@ -84,7 +84,9 @@ fn largest(values: [i32; 512]) -> u32
     m
 }
 
-// The least width from 2 to 32 that holds all.
+// The least width from 2 to 32 that holds all values. Width 1 is left out on purpose, as in the Rust: what Kontakt
+// decoded of it differed on a natural 16-bit probe, width 2 brought the exact samples back, and what width 1 means is
+// still unresolved.
 pub fn width(values: [i32; 512]) -> u32
     ensures { λ r. ⌜ r ≡ leastWidth values ⌝ }
 {
@@ -99,7 +101,7 @@ pub fn width(values: [i32; 512]) -> u32
     b
 }
 
-// Each value less the one before it, with 0 as the last.
+// The differences that rebuild the values: each is the next value less this one, and 0 stands as the last.
 pub fn deltas(values: [i32; 512]) -> [i32; 512]
     ensures { λ r. ⌜ r ≡ differences values ⌝ }
 {
@@ -110,7 +112,7 @@ pub fn deltas(values: [i32; 512]) -> [i32; 512]
     out
 }
 
-// 36: a value that does not fit the width.
+// The refusal of values for a width. 36: a value or difference does not fit it.
 pub fn check_fit(values: [i32; 512], bits: u32) -> Checked
     requires { ⌜ (1 ≤ bits) × (bits ≤ 32) ⌝ }
     ensures { λ r. ⌜ r ≡ checkFit bits values ⌝ }
@@ -121,8 +123,9 @@ pub fn check_fit(values: [i32; 512], bits: u32) -> Checked
     Checked::No(Refusal::WidthTooSmall)
 }
 
+// Fills the run with the codes of all values, which the width holds.
 fn put_all(values: [i32; 512], bits: u32, run: &mut [u8])
-    requires { ⌜ (1 ≤ bits) × (bits ≤ 32) × (length (now run) ≡ 64 * bits) × (every (holds bits) values ≡ true) ⌝ }
+    requires { ⌜ WholeRun (now run) bits × (every (holds bits) values ≡ true) ⌝ }
     ensures { λ _. ⌜ now (run .exit) ≡ packing bits values ⌝ }
 {
     let mut cursor = PutCursor::start();
@@ -131,10 +134,12 @@ fn put_all(values: [i32; 512], bits: u32, run: &mut [u8])
     }
 }
 
-// The packing step: 512 values into a run, where all fit.
+// Packs 512 values into a run of 64 * bits bytes. 36: a value or difference does not fit the width, and the run stays
+// as it was.
 pub fn pack(values: [i32; 512], bits: u32, run: &mut [u8]) -> Checked
-    requires { ⌜ (1 ≤ bits) × (bits ≤ 32) × (length (now run) ≡ 64 * bits) ⌝ }
-    ensures { λ r. ⌜ (r ≡ checkFit bits values) × (now (run .exit) ≡ filled (checkFit bits values) (packing bits values) (now (run .entry))) ⌝ }
+    requires { ⌜ WholeRun (now run) bits ⌝ }
+    ensures { λ r. ⌜ (let fit = checkFit bits values in
+        (r ≡ fit) × (now (run .exit) ≡ filled fit (packing bits values) (now (run .entry)))) ⌝ }
 {
     if let Checked::No(r) = check_fit(values, bits) {
         return Checked::No(r);

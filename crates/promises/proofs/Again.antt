@@ -1,4 +1,5 @@
--- The new file serves as template exactly as the old one did.
+-- The new file serves as template exactly as the old one did: all that is read of a template stays in it, but for the
+-- values and bases that the samples determine, and these any new samples replace.
 use Prim.Native.Nat.{ℕ, _+_, _≤_, _<_}
 use mathlib.Core.Path.{_≡_, refl, sym, ap, ap₂, _∙_}
 use mathlib.Core.Bool.{Bool, not}

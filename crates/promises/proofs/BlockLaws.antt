@@ -1,4 +1,5 @@
--- A block that was written is read back, over the depth, the width and the flags.
+-- A block that was written is read back, over the depth, the width and the flags: the width holds what is packed, and
+-- the differences, summed from the base, are the samples.
 use Prim.Native.Nat.{ℕ, zero, suc, _+_, _-_, _*_, _≤_, _<_}
 use mathlib.Core.Path.{_≡_, refl, sym, ap, ap₂, _∙_}
 use mathlib.Core.Bool.{Bool, true, false, cond}
@@ -58,18 +59,18 @@ module _ (base bits : ℤ) (flags : ℕ) (run : List ℕ) where
     unfolding numAt from blockBytes blockMark le digits
     flags-read = refl
 
-    pub run-read : drop 16 (blockBytes base bits flags run ++ t) ≡ run ++ t
+    run-read : drop 16 (blockBytes base bits flags run ++ t) ≡ run ++ t
     unfolding blockBytes blockMark le digits
     run-read = refl
 
-    pub mark-read : isBlock (blockBytes base bits flags run ++ t) ≡ true
+    mark-read : isBlock (blockBytes base bits flags run ++ t) ≡ true
     unfolding isBlock same blockBytes blockMark
     mark-read = refl
 
     pub flags-are : flags < 65536 → numAt 10 2 (blockBytes base bits flags run ++ t) ≡ flags
     flags-are h = flags-read ∙ num-le 2 flags h
 
-    pub base-is : Holds 32 base → baseOf (blockBytes base bits flags run ++ t) ≡ base
+    base-is : Holds 32 base → baseOf (blockBytes base bits flags run ++ t) ≡ base
     unfolding baseOf
     base-is h = ap (value 32) (base-read ∙ num-le 4 (codeOf 32 base) (code-lt 32 (omega arith) base h)) ∙ value-code 32 (omega arith) base h
 

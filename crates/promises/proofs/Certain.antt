@@ -1,4 +1,5 @@
--- When a call refuses, that what is allowed is one outcome, and that a refusal changes nothing: for every public function, over what it promises.
+-- When a call refuses, that what is allowed is one outcome, and that a refusal changes nothing: for every public
+-- function, over what it promises.
 use Prim.Native.Nat.{ℕ, _/_, _^_, _≤_, _<_}
 use mathlib.Core.Path.{_≡_, refl, sym, _∙_}
 use mathlib.Core.Bool.{Bool, true, false, cond}
@@ -26,9 +27,9 @@ use Rattle.format.specs.declared.settings.StereoMode.{StereoMode}
 use Rattle.format.specs.declared.answers.Outcome.{Outcome}
 use Rattle.format.specs.declared.answers.Outcome.the-variants.{Opened, Read, Finished, Wrote}
 use Rattle.format.specs.declared.answers.Answer.{Answer}
-use Rattle.lent.specs.Lent.{lentOf, restOf}
-use Rattle.lent.specs.declared.Container.{Container}
-use Rattle.lent.proofs.Outcome.{one-outcome}
+use Rattle.lent_samples.specs.Lent.{lentOf, restOf}
+use Rattle.lent_samples.specs.declared.Container.{Container}
+use Rattle.lent_samples.proofs.Outcome.{one-outcome}
 use Rattle.laws.proofs.Checks.{others-fine, has-room}
 use Rattle.promises.proofs.Outcomes.{Exactly, isRefused, exactly-no, no-keeps, refused-keeps, host-refused}
 use Rattle.promises.proofs.WalkLaws.{step-moves}

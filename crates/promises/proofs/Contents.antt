@@ -1,4 +1,5 @@
--- What is written is fixed in every group, in its length and in its header.
+-- What is written is fixed in every group, in its length and in its header: a promise fixes all of it, and these are
+-- its parts.
 use Prim.Native.Nat.{ℕ, _+_, _*_, _<_, min}
 use mathlib.Core.Path.{_≡_, sym, ap, _∙_}
 use mathlib.Core.List.{List, [], _++_}

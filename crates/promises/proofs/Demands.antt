@@ -1,5 +1,6 @@
--- The demands, each one theorem over what the functions promise (format, Promises): `Encodes p mode s lent r after` says that a call
--- which encodes the samples s with the settings p into `lent` answers r and leaves `after` there; `Decodes`, `Reencodes` likewise.
+-- The demands, each one theorem over what the functions promise (format, Promises): `Encodes p mode s lent r after`
+-- says that a call which encodes the samples s with the settings p into `lent` answers r and leaves `after` there;
+-- `Decodes`, `Reencodes` likewise.
 use Prim.Native.Nat.{ℕ, _/_, _^_, _≤_, _<_}
 use mathlib.Core.Path.{_≡_, refl, sym, ap, _∙_, subst}
 use mathlib.Core.List.{List}
@@ -38,7 +39,8 @@ Rate32 p = p .«sample_rate» < 2 ^ 32
 
 -- ---- 1. THERE AND BACK
 
--- where encoding says that it wrote n bytes, decoding these n bytes into room for the samples says how many there are, and leaves them there
+-- where encoding says that it wrote n bytes, decoding these n bytes into room for the samples says how many there
+-- are, and leaves them there
 pub there-and-back : (p : PcmSpec) (mode : StereoMode) (s : List ℤ) (lent file : List ℕ) (n : ℕ) (out after : List ℤ) (r : Answer)
     → Rate32 p
     → Encodes p mode s lent (wrote n) file
@@ -64,7 +66,8 @@ parity-exactly p s lent after r two e =
 
 -- ---- 3. LAW ONE: the new file decodes to the samples
 
--- where re-encoding says that it wrote n bytes, decoding these into room for the samples says how many there are, and leaves them there
+-- where re-encoding says that it wrote n bytes, decoding these into room for the samples says how many there are,
+-- and leaves them there
 pub law-one : (p : PcmSpec) (s : List ℤ) (t lent file : List ℕ) (n : ℕ) (out after : List ℤ) (r : Answer)
     → Reencodes p s t lent (wrote n) file
     → length s ≤ length out
@@ -77,7 +80,8 @@ law-one p s t lent file n out after r e room d =
 
 -- ---- 4. LAW TWO: the new file serves as template exactly as the old one did
 
--- of any samples z with any settings q, whether they are accepted or not, and any room: with the new file the same is answered and left as with t
+-- of any samples z with any settings q, whether they are accepted or not, and any room: with the new file the same
+-- is answered and left as with t
 pub law-two : (p : PcmSpec) (s : List ℤ) (t lent file : List ℕ) (n : ℕ) (q : PcmSpec) (z : List ℤ) (room after after′ : List ℕ) (r r′ : Answer)
     → Reencodes p s t lent (wrote n) file
     → Reencodes q z t room r after
@@ -90,7 +94,8 @@ law-two p s t lent file n q z room after after′ r r′ e old new =
 
 -- ---- 5. LAW THREE: a template with its own samples is itself
 
--- t decodes to m samples, is accepted with them, and no mid plus side or mid minus side of its active frames leaves 32 bits: then t is written, whole
+-- t decodes to m samples, is accepted with them, and no mid plus side or mid minus side of its active frames leaves
+-- 32 bits: then t is written, whole
 pub law-three : (p : PcmSpec) (t lent file : List ℕ) (n : ℕ) (out own : List ℤ) (m : ℕ)
     → Below 256 t
     → Decodes t out (read m) own
@@ -108,7 +113,8 @@ law-three-only p s t lent file n e back = Refile.kept-stays p s t (reencode-ok p
 
 -- ---- 6. ACCEPTED TEMPLATES OPEN AND DECODE
 
--- where samples are accepted with t, opening t says its header, and decoding it into as much room says that it has as many samples
+-- where samples are accepted with t, opening t says its header, and decoding it into as much room says that it has
+-- as many samples
 pub templates-decode : (p : PcmSpec) (s : List ℤ) (t lent file : List ℕ) (n : ℕ)
     → Reencodes p s t lent (wrote n) file
     → ((r : Answer) → Opens t r → r ≡ answeredBy (Opened (headerOf t)))

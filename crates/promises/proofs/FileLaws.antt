@@ -1,4 +1,5 @@
--- The header, the table and the groups of an assembled file are read back.
+-- The header, the table and the groups of an assembled file are read back: each number fits its bytes, and each entry
+-- is the length of the groups before it.
 use Prim.Native.Nat.{ℕ, _+_, _-_, _*_, _≤_, _<_}
 use mathlib.Core.Path.{_≡_, refl, sym, ap, _∙_}
 use mathlib.Core.Bool.{true, not}
@@ -35,7 +36,7 @@ pub record Small (p : PcmSpec) (frames : Frames) (start size : ℕ) : Type 0 whe
   pub start-32 : start < 4294967296
   pub size-32 : size < 4294967296
 
-pub header-fields : (p : PcmSpec) (frames : Frames) (start size : ℕ) (t : List ℕ) → Small p frames start size → fieldsOf (headerBytes p frames start size ++ t) ≡ fieldsFor p frames start size
+header-fields : (p : PcmSpec) (frames : Frames) (start size : ℕ) (t : List ℕ) → Small p frames start size → fieldsOf (headerBytes p frames start size ++ t) ≡ fieldsFor p frames start size
 unfolding fieldsOf numAt from headerBytes signature le digits
 header-fields p frames start size t s =
     λ i. record {
@@ -48,7 +49,7 @@ header-fields p frames start size t s =
       size = num-le 4 size (s .size-32) i;
     }
 
-pub header-signature : (p : PcmSpec) (frames : Frames) (start size : ℕ) (t : List ℕ) → isSignature (headerBytes p frames start size ++ t) ≡ true
+header-signature : (p : PcmSpec) (frames : Frames) (start size : ℕ) (t : List ℕ) → isSignature (headerBytes p frames start size ++ t) ≡ true
 unfolding headerBytes signature isSignature same
 header-signature p frames start size t = refl
 
@@ -71,7 +72,7 @@ module _ (p : PcmSpec) (frames : Frames) (part : ℕ → List ℕ) where
 
   module _ (small : Small p frames first total) where
     -- its header says what it was made of
-    pub fields-are : fieldsOf file ≡ head
+    fields-are : fieldsOf file ≡ head
     unfolding assembled
     fields-are = header-fields p frames first total (tableOf part count ++ joined part count) small
 
@@ -80,7 +81,7 @@ module _ (p : PcmSpec) (frames : Frames) (part : ℕ → List ℕ) where
     signed = header-signature p frames first total (tableOf part count ++ joined part count)
 
     -- entry k is the length of the groups before it
-    pub entry-is : (k : ℕ) → k ≤ count → entry file head k ≡ length (joined part k)
+    entry-is : (k : ℕ) → k ≤ count → entry file head k ≡ length (joined part k)
     unfolding entry numAt assembled tableOf
     entry-is k l =
         ap (num 256) (part-at (λ g. le 4 (length (joined part g))) k (count + 1) (120 + 4 * k) 4 (headerBytes p frames first total) (joined part count) (omega arith)

@@ -1,4 +1,5 @@
--- A group of samples, encoded in any mode, decodes to itself.
+-- A group of samples, encoded in any mode, decodes to itself: mid/side is taken only where every frame has equal
+-- parity, and padded frames are not read.
 use Prim.Native.Nat.{ℕ, _*_, _%_, _≤_, _<_}
 use mathlib.Core.Path.{_≡_, refl, sym, ap, ap₂, _∙_, subst, subst₂}
 use mathlib.Core.Bool.{Bool, true, false, cond}
@@ -25,7 +26,7 @@ use Rattle.laws.proofs.Parts.{is-tab}
 use Rattle.laws.proofs.Signs.{AllHold}
 use Rattle.laws.proofs.Halves.{Even, even-padded}
 use Rattle.promises.proofs.BlockLaws.{Reads, block-reads}
-use Rattle.laws.proofs.Channels.{Level, channel-length, plain-is, split-is, split-level, woven-split, active-low}
+use Rattle.laws.proofs.Channels.{Level, channel-length, unwoven-is, padded-channels-is, padded-channels-level, woven-padded, active-low}
 use Rattle.laws.proofs.Stereo.{both-level, both-back}
 use Rattle.promises.proofs.GroupLaws.{coded-is, group-fine, first-flags, first-mark, first-pcm, group-long}
 
@@ -57,7 +58,7 @@ module _ (h : Fields) (g flags : ℕ) (chans : List (List ℤ)) (some : 1 ≤ h 
   chans-coded = coded-is h (λ c. flags) X B reads ∙ is-tab [] (h .channels) X chans (level .count) (λ k p. refl)
 
   -- with what the channels become
-  pub blocks-group : (xs : List ℤ) → woven (active (h .frames) g) (cond (eqb (flags % 2) 1) (leftRight Pcm chans) chans) ≡ xs → Group h g xs (blocks (h .depth) flags chans)
+  blocks-group : (xs : List ℤ) → woven (active (h .frames) g) (cond (eqb (flags % 2) 1) (leftRight Pcm chans) chans) ≡ xs → Group h g xs (blocks (h .depth) flags chans)
   unfolding groupSamples channelsOf midBit
   blocks-group xs e =
       subst (Group h g xs) (sym bytes-are)
@@ -94,23 +95,23 @@ module _ (p : PcmSpec) (mode : StereoMode) (h : Fields) (ec : h .channels ≡ p 
   few = active-low (h .frames) g
 
   level : Level (h .depth) n 512 chans
-  level = split-level n k some s l few (h .depth) hold
+  level = padded-channels-level n k some s l few (h .depth) hold
 
   direct : Group h g s (blocks (h .depth) 0 chans)
-  direct = blocks-group h g 0 chans some low high level (omega arith) (λ e. absurd (omega arith)) s (woven-split n k some few s l)
+  direct = blocks-group h g 0 chans some low high level (omega arith) (λ e. absurd (omega arith)) s (woven-padded n k some few s l)
 
   both : n ≡ 2 → parity chans ≡ true → Group h g s (blocks (h .depth) 1 (midSide chans))
   both two even =
       blocks-group h g 1 (midSide chans) some low high (both-level (h .depth) n 512 high two chans level) (omega arith) (λ e. two) s
-      (ap (woven k) (both-back (h .depth) n 512 high two chans level even) ∙ woven-split n k some few s l)
+      (ap (woven k) (both-back (h .depth) n 512 high two chans level even) ∙ woven-padded n k some few s l)
 
   -- the padded frames have the parity of the last
   split-even : n ≡ 2 → parity (unwoven n s) ≡ true → parity chans ≡ true
   unfolding parity
   split-even two e =
       let len = channel-length n k some s l in
-      let q = even-padded (channel n s 0) (channel n s 1) (len 0 ∙ sym (len 1)) (subst₂ Even (plain-is n k some s l 0 (omega arith)) (plain-is n k some s l 1 (omega arith)) e) in
-      subst₂ Even (sym (split-is n k some s l few 0 (omega arith))) (sym (split-is n k some s l few 1 (omega arith))) q
+      let q = even-padded (channel n s 0) (channel n s 1) (len 0 ∙ sym (len 1)) (subst₂ Even (unwoven-is n k some s l 0 (omega arith)) (unwoven-is n k some s l 1 (omega arith)) e) in
+      subst₂ Even (sym (padded-channels-is n k some s l few 0 (omega arith))) (sym (padded-channels-is n k some s l few 1 (omega arith))) q
 
   -- in every mode it reads as s; what MidSide asks was checked
   pub group-codes : (mode ≡ MidSide → (p .channels ≡ 2) × (parity (unwoven (p .channels) s) ≡ true)) → Group h g s (encodedGroup p mode s)

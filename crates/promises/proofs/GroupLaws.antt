@@ -1,4 +1,5 @@
--- A group's blocks, one after another, are read back, over the channel count.
+-- A group's blocks, one after another, are read back, over the channel count: each tells its length, so that the
+-- next is found behind it.
 use Prim.Native.Nat.{ℕ, zero, suc, _+_, _*_, _/_, _%_, _≤_, _<_}
 use mathlib.Core.Path.{_≡_, refl, sym, ap, _∙_}
 use mathlib.Core.Bool.{Bool, true, false, not, _&&_}

@@ -1,4 +1,5 @@
--- What the host's number tells: where it is a length, what its call wrote or read.
+-- What the host's number tells: below 2 ^ 63 it is a length, so nothing was refused, and its call wrote or read so
+-- much.
 use Prim.Native.Nat.{ℕ, _*_, _/_, _%_, _^_, _≤_, _<_}
 use mathlib.Core.Path.{_≡_, sym, ap, _∙_}
 use mathlib.Core.List.{List}
@@ -21,7 +22,7 @@ use Rattle.format.specs.declared.answers.Outcome.the-variants.{Read, Wrote}
 use Rattle.laws.proofs.Checks.{passed, first-fine, others-fine}
 use Rattle.laws.proofs.Lengths.{decode-count}
 use Rattle.laws.proofs.SampleBytes.{sample-bytes-length, bytes-back}
-use Rattle.lent.proofs.Laws.{length-lent}
+use Rattle.lent_samples.proofs.Laws.{length-lent}
 use Rattle.promises.proofs.Outcomes.{written-front, host-decodes-to, host-fine, host-length}
 
 whole-samples : (b : List ℕ) → checkBytes b ≡ Fine → length b % 4 ≡ 0

@@ -1,6 +1,6 @@
--- The demands 1 to 6 at the host boundary, over what its functions promise (format, Promises): `HostEncodes b p mode lent r after` says that a call
--- which encodes the samples in the bytes b with the settings p into `lent` answers the number r and leaves `after` there; the others likewise.
--- A number below 2 ^ 63 is a length in bytes.
+-- The demands 1 to 6 at the host boundary, over what its functions promise (format, Promises):
+-- `HostEncodes b p mode lent r after` says that a call which encodes the samples in the bytes b with the settings p
+-- into `lent` answers the number r and leaves `after` there; the others likewise.
 use Prim.Native.Nat.{ℕ, _+_, _*_, _/_, _%_, _^_, _≤_, _<_}
 use mathlib.Core.Path.{_≡_, refl, sym, ap, _∙_, subst}
 use mathlib.Core.Bool.{not}
@@ -39,7 +39,8 @@ use Rattle.promises.proofs.Demands.{Rate32}
 
 -- ---- 1. THERE AND BACK
 
--- where encoding says that it wrote n bytes, decoding these n bytes into room for the samples' bytes says how many bytes there are, and leaves them there
+-- where encoding says that it wrote n bytes, decoding these n bytes into room for the samples' bytes says how many
+-- bytes there are, and leaves them there
 pub host-there-and-back : (b : List ℕ) (p : PcmSpec) (mode : ℕ) (lent file : List ℕ) (n : ℕ) (out after : List ℕ) (r : ℕ)
     → Below 256 b
     → Rate32 p
@@ -57,7 +58,8 @@ host-there-and-back b p mode lent file n out after r byte rate e short room d =
 
 -- ---- 2. PARITY
 
--- of whole samples stereo MidSide answers refusal 35 exactly when 30 to 33 pass and some frame's two samples differ in parity
+-- of whole samples stereo MidSide answers refusal 35 exactly when 30 to 33 pass and some frame's two samples differ
+-- in parity
 pub host-parity-exactly : (b : List ℕ) (p : PcmSpec) (lent after : List ℕ) (r : ℕ)
     → p .channels ≡ 2
     → length b % 4 ≡ 0
@@ -78,7 +80,8 @@ host-parity-exactly b p lent after r two whole short e =
 
 -- ---- 3. LAW ONE: the new file decodes to the samples
 
--- where re-encoding says that it wrote n bytes, decoding these into room for the samples' bytes says how many bytes there are, and leaves them there
+-- where re-encoding says that it wrote n bytes, decoding these into room for the samples' bytes says how many bytes
+-- there are, and leaves them there
 pub host-law-one : (b : List ℕ) (p : PcmSpec) (t lent file : List ℕ) (n : ℕ) (out after : List ℕ) (r : ℕ)
     → Below 256 b
     → HostReencodes b p t lent n file
@@ -95,7 +98,8 @@ host-law-one b p t lent file n out after r byte e short room d =
 
 -- ---- 4. LAW TWO: the new file serves as template exactly as the old one did
 
--- of any bytes c with any settings q, whether they are accepted or not, and any room: with the new file the same is answered and left as with t
+-- of any bytes c with any settings q, whether they are accepted or not, and any room: with the new file the same is
+-- answered and left as with t
 pub host-law-two : (b : List ℕ) (p : PcmSpec) (t lent file : List ℕ) (n : ℕ) (c : List ℕ) (q : PcmSpec) (room after after′ : List ℕ) (r r′ : ℕ)
     → HostReencodes b p t lent n file
     → n < 2 ^ 63
@@ -111,7 +115,8 @@ host-law-two b p t lent file n c q room after after′ r r′ e short old new =
 
 -- ---- 5. LAW THREE: a template with its own samples is itself
 
--- t decodes to m bytes, is accepted with them, and no mid plus side or mid minus side of its active frames leaves 32 bits: then t is written, whole
+-- t decodes to m bytes, is accepted with them, and no mid plus side or mid minus side of its active frames leaves 32
+-- bits: then t is written, whole
 pub host-law-three : (p : PcmSpec) (t lent file : List ℕ) (n : ℕ) (out own : List ℕ) (m : ℕ)
     → Below 256 t
     → HostDecodes t out m own

@@ -32,7 +32,8 @@ use Rattle.promises.proofs.BlockLaws.{fit}
 use Rattle.promises.proofs.Outcomes.{isRefused}
 use Rattle.promises.proofs.Files.{file-tells, new-tells}
 
--- ---- what can be given: bytes are bytes, samples are of 32 bits, settings of their types, and no slice has 2 ^ 63 bytes
+-- ---- what can be given: bytes are bytes, samples are of 32 bits, settings of their types, and no slice has 2 ^ 63
+-- bytes
 abbrev pub Bytes : List ℕ → Type 0
 Bytes s = Below 256 s × (length s < 2 ^ 63)
 

@@ -1,4 +1,4 @@
--- A template's block with its own samples is the template's block.
+-- A template's block with its own samples is the template's block: they give the base and the values that it has.
 use Prim.Native.Nat.{ℕ, zero, suc, _+_, _-_, _*_, _^_, _≤_, _<_, min}
 use mathlib.Core.Path.{_≡_, refl, sym, ap, ap₂, _∙_, subst}
 use mathlib.Core.Bool.{false}

@@ -1,4 +1,5 @@
--- A file whose table and groups are those of `part` decodes to what its groups decode to.
+-- A file whose table and groups are those of `part` decodes to what its groups decode to: the entries lead to the
+-- groups.
 use Prim.Native.Nat.{ℕ, zero, suc, _+_, _-_, _*_, _≤_, _<_}
 use mathlib.Core.Path.{_≡_, refl, sym, ap, ap₂, _∙_}
 use mathlib.Core.Bool.{Bool, true, false, cond, not, _&&_}
@@ -98,7 +99,7 @@ module _ {s : List ℕ} {h : Fields} {part : ℕ → List ℕ} (lay : Layout s h
       by zero e = refl
       by (suc n) e = let f = starts (omega arith) in and-no (not (eqb (suc n) 0)) _ (ap not (ap isBlock (f .1) ∙ ok 0 (omega arith) .mark (f .0)))
 
-  pub format-is : formatOf s h ≡ Pcm
+  format-is : formatOf s h ≡ Pcm
   unfolding formatOf
   format-is = ap (λ (b : Bool). cond b Float Pcm) (by count refl)
     where
@@ -107,7 +108,7 @@ module _ {s : List ℕ} {h : Fields} {part : ℕ → List ℕ} (lay : Layout s h
       by (suc n) e = let f = starts (omega arith) in and-no (not (eqb (suc n) 0)) _ (ap floatBit (f .1) ∙ ok 0 (omega arith) .pcm (f .0))
 
   -- opening refuses nothing
-  pub open-fine : checkOpen s ≡ Fine
+  open-fine : checkOpen s ≡ Fine
   unfolding checkOpen
   open-fine =
       pass _ _ (le-ltb (length s) 120 (lay .long))

@@ -1,4 +1,5 @@
--- What re-encoding with the template's own samples asks of the template: no mid plus side or mid minus side of its active frames leaves 32 bits.
+-- What re-encoding with the template's own samples asks of the template: no mid plus side or mid minus side of its
+-- active frames leaves 32 bits.
 use Prim.Native.Nat.{ℕ, _<_}
 use mathlib.Core.Path.{_≡_}
 use mathlib.Core.Bool.{true}

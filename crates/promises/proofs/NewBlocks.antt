@@ -1,4 +1,5 @@
--- A template's block with new samples reads as those samples, and then the template's.
+-- A template's block with new samples reads as those samples, and then the template's: the last new difference leads
+-- to the template's next sample, and those after it stay.
 use Prim.Native.Nat.{ℕ, zero, suc, _+_, _-_, _*_, _≤_, _<_, min}
 use mathlib.Core.Path.{_≡_, refl, sym, ap, ap₂, _∙_, subst}
 use mathlib.Core.Bool.{Bool, true, false, cond, not}
@@ -97,7 +98,7 @@ module _ (base : ℤ) (vs : List ℤ) (x : ℤ) (xs : List ℤ) (sb : SFits w32 
       by (o ∷ []) p = last-unused x xs o fx
       by (o ∷ q ∷ os) p = absurd (omega arith)
 
-  pub spliced : Spliced (min (length ys) 511)
+  spliced : Spliced (min (length ys) 511)
   spliced =
       ⊎-elim
       (λ (e : length ys ≡ 512). let m : 511 ≡ min (length ys) 511 = omega arith in subst Spliced m (spliced-all e))

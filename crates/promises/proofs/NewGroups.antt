@@ -1,4 +1,5 @@
--- A template's group with new samples decodes to those samples, and is as long as it was; with its own samples it stays.
+-- A template's group with new samples decodes to those samples, and is as long as it was; with its own samples it
+-- stays: each of its blocks does so.
 use Prim.Native.Nat.{ℕ, zero, suc, _+_, _*_, _/_, _%_, _≤_, _<_}
 use mathlib.Core.Path.{_≡_, refl, sym, ap, ap₂, _∙_, subst}
 use mathlib.Core.Bool.{Bool, true, false, cond, not, _&&_}
@@ -33,7 +34,7 @@ use Rattle.laws.proofs.Signs.{AllHold}
 use Rattle.laws.proofs.Each.{Each, each-tab}
 use Rattle.laws.proofs.Wrap.{Fit, zero-fits}
 use Rattle.promises.proofs.BlockLaws.{Reads, fit}
-use Rattle.laws.proofs.Channels.{Level, plain-at, plain-level, woven-back, woven-at, each-woven, active-low}
+use Rattle.laws.proofs.Channels.{Level, unwoven-at, unwoven-level, woven-back, woven-at, each-woven, active-low}
 use Rattle.promises.proofs.MidSums.{Stays}
 use Rattle.laws.proofs.Stereo.{both-level, both-back, two-channels, both-fit, frame-same, both-kept, frames-stay}
 use Rattle.promises.proofs.GroupLaws.{not-float, front, rest-is, coded-is, group-fine, first-flags, first-mark, first-pcm, group-long}
@@ -88,7 +89,7 @@ module _ {h : Fields} {g : ℕ} {bs : List ℕ} {s : List ℤ} (ok : Accepted h 
   chans-both = T.chans-both (h .depth) n bs s (ok .fine)
 
   plains : Level (h .depth) n k (unwoven n s)
-  plains = plain-level n k (ok .some) s (ok .long) (h .depth) (ok .hold)
+  plains = unwoven-level n k (ok .some) s (ok .long) (h .depth) (ok .hold)
 
   level : Level (h .depth) n k chans
   level = by (midBit bs) refl
@@ -134,7 +135,7 @@ module _ {h : Fields} {g : ℕ} {bs : List ℕ} {s : List ℤ} (ok : Accepted h 
   woven-plain : midBit bs ≡ false → woven k (tab n X) ≡ s
   woven-plain m =
       woven-back n k s (ok .long) (tab n X) (length-tab n X)
-      (λ c i q p. new-at c i q p ∙ ap (λ (x : List (List ℤ)). getD (getD x c []) i (pos 0)) (chans-plain m) ∙ plain-at n k (ok .some) s (ok .long) c i q p)
+      (λ c i q p. new-at c i q p ∙ ap (λ (x : List (List ℤ)). getD (getD x c []) i (pos 0)) (chans-plain m) ∙ unwoven-at n k (ok .some) s (ok .long) c i q p)
 
   woven-both : midBit bs ≡ true → woven k (leftRight Pcm (tab n X)) ≡ s
   woven-both m =
@@ -144,7 +145,7 @@ module _ {h : Fields} {g : ℕ} {bs : List ℕ} {s : List ℤ} (ok : Accepted h 
       frame-same i (tab n X) chans (λ d u. new-long d i (omega arith) p) (λ d u. omega (arith, level .long d (omega arith))) (λ d u. new-at d i (omega arith) p) c (omega arith)
       ∙ ap (λ (x : List (List ℤ)). getD (getD (leftRight Pcm x) c []) i (pos 0)) (chans-both m)
       ∙ ap (λ (x : List (List ℤ)). getD (getD x c []) i (pos 0)) (both-back (h .depth) n k (ok .high) two (unwoven n s) plains (T.even-ok (h .depth) n bs s (ok .fine) m))
-      ∙ plain-at n k (ok .some) s (ok .long) c i q p)
+      ∙ unwoven-at n k (ok .some) s (ok .long) c i q p)
 
   mid-bit : flags 0 ≡ 1 → midBit bs ≡ true
   unfolding midBit fromBlock
@@ -273,7 +274,7 @@ module _ {h : Fields} {g : ℕ} {bs : List ℕ} {s : List ℤ} (ok : Accepted h 
   module _ (byte : Below 256 bs) (own : s ≡ groupSamples h Pcm g bs) (stay : midBit bs ≡ true → (i : ℕ) → i < k → Stays (h .depth) bs i) where
     own-at : (c i : ℕ) → c < n → i < k → getD (getD (unwoven n s) c []) i (pos 0) ≡ getD (getD (channelsOf h Pcm bs) c []) i (pos 0)
     unfolding groupSamples
-    own-at c i q p = plain-at n k (ok .some) s (ok .long) c i q p ∙ ap (λ (x : List ℤ). getD x (i * n + c) (pos 0)) own ∙ woven-at n k (channelsOf h Pcm bs) read-count c i q p
+    own-at c i q p = unwoven-at n k (ok .some) s (ok .long) c i q p ∙ ap (λ (x : List ℤ). getD x (i * n + c) (pos 0)) own ∙ woven-at n k (channelsOf h Pcm bs) read-count c i q p
 
     -- where the channels are as they are
     plain-own : midBit bs ≡ false → (c : ℕ) → c < n → getD chans c [] ≡ take k (S c)

@@ -1,4 +1,5 @@
--- Outcomes read backwards: from what was answered, what the checks said and what lent memory holds.
+-- Outcomes read backwards: from what was answered, what the checks said and what lent memory holds. No success is a
+-- refusal, so that either tells which it was.
 use Prim.Native.Nat.{ℕ, _+_, _*_, _/_, _^_, _≤_, _<_}
 use mathlib.Core.Path.{_≡_, refl, sym, ap, ap₂, _∙_}
 use mathlib.Core.Bool.{Bool, true, false}

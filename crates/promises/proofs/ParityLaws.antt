@@ -1,4 +1,5 @@
--- MidSide refuses 35 exactly when some frame's two samples differ in parity.
+-- MidSide refuses 35, parity differs, exactly when some frame's two samples differ in parity: frame i of group g is
+-- the file's frame 512 g + i, and no other check says 35.
 use Prim.Native.Nat.{ℕ, zero, suc, _+_, _*_, _/_, _%_, _<_}
 use mathlib.Core.Path.{_≡_, refl, sym, ap, ap₂, _∙_, subst}
 use mathlib.Core.Bool.{Bool, true, false, not, _&&_}
@@ -27,7 +28,7 @@ use Rattle.laws.proofs.Tests.{never, either}
 use Rattle.laws.proofs.Checks.{_and-then_, first-fine, others-fine, Unsaid, unsaid, _nor_, said-after, said-before, found-below}
 use Rattle.laws.proofs.SampleChecks.{frames-ok}
 use Rattle.laws.proofs.Halves.{even-at}
-use Rattle.laws.proofs.Channels.{plain-at, plain-long, group-length}
+use Rattle.laws.proofs.Channels.{unwoven-at, unwoven-long, group-length}
 
 -- some index below n has p
 pub record Some (p : ℕ → Bool) (n : ℕ) : Type 0 where
@@ -35,7 +36,7 @@ pub record Some (p : ℕ → Bool) (n : ℕ) : Type 0 where
   pub below : at < n
   pub holds : p at ≡ true
 
-pub some-below : (p : ℕ → Bool) (n : ℕ) → anyBelow p n ≡ true → Some p n
+some-below : (p : ℕ → Bool) (n : ℕ) → anyBelow p n ≡ true → Some p n
 unfolding anyBelow
 some-below p zero e = never (sym e)
 some-below p (suc n) e =
@@ -47,7 +48,7 @@ some-below p (suc n) e =
     more : (a n : ℕ) → a < n → a < suc n
     more a n l = omega arith
 
-pub below-some : (p : ℕ → Bool) (n : ℕ) → Some p n → anyBelow p n ≡ true
+below-some : (p : ℕ → Bool) (n : ℕ) → Some p n → anyBelow p n ≡ true
 below-some p n s = by (anyBelow p n) refl
   where
     by : (b : Bool) → anyBelow p n ≡ b → anyBelow p n ≡ true
@@ -94,10 +95,10 @@ module _ (s : List ℤ) (frames : Frames) (l : length s ≡ 2 * frames .0) (g : 
 
   -- sample i of its channel c is a sample of the list
   sample-at : (c i : ℕ) → c < 2 → i < k → getD (getD chans c []) i (pos 0) ≡ getD s ((512 * g + i) * 2 + c) (pos 0)
-  sample-at c i q p = plain-at 2 k (omega arith) (groupIn 2 s g) (group-length 2 frames s l g) c i q p ∙ in-group c i q p
+  sample-at c i q p = unwoven-at 2 k (omega arith) (groupIn 2 s g) (group-length 2 frames s l g) c i q p ∙ in-group c i q p
 
   long : (c : ℕ) → c < 2 → length (getD chans c []) ≡ k
-  long = plain-long 2 k (omega arith) (groupIn 2 s g) (group-length 2 frames s l g)
+  long = unwoven-long 2 k (omega arith) (groupIn 2 s g) (group-length 2 frames s l g)
 
   -- its frame i is the list's frame 512 g + i
   frame-is : (i : ℕ) → i < k → evenAt (getD chans 0 []) (getD chans 1 []) i ≡ equalParity (getD s ((512 * g + i) * 2) (pos 0)) (getD s ((512 * g + i) * 2 + 1) (pos 0))
@@ -105,14 +106,14 @@ module _ (s : List ℤ) (frames : Frames) (l : length s ≡ 2 * frames .0) (g : 
       let e : (512 * g + i) * 2 + 0 ≡ (512 * g + i) * 2 = omega arith in
       ap₂ equalParity (sample-at 0 i (omega arith) p ∙ ap (λ (x : ℕ). getD s x (pos 0)) e) (sample-at 1 i (omega arith) p)
 
-  pub odd-in : parity chans ≡ false → (i : ℕ) × (i < k) × (oddFrame s (512 * g + i) ≡ true)
+  odd-in : parity chans ≡ false → (i : ℕ) × (i < k) × (oddFrame s (512 * g + i) ≡ true)
   unfolding parity
   odd-in e =
       let o = odd-at (getD chans 0 []) (getD chans 1 []) (long 0 (omega arith) ∙ sym (long 1 (omega arith))) e in
       let p : o .0 < k = subst (λ (x : ℕ). o .0 < x) (long 0 (omega arith)) (o .1) in
       (o .0, p, ap not (sym (frame-is (o .0) p) ∙ o .2))
 
-  pub odd-so : (i : ℕ) → i < k → oddFrame s (512 * g + i) ≡ true → parity chans ≡ false
+  odd-so : (i : ℕ) → i < k → oddFrame s (512 * g + i) ≡ true → parity chans ≡ false
   unfolding parity
   odd-so i p o = by (parity chans) refl
     where
@@ -122,14 +123,14 @@ module _ (s : List ℤ) (frames : Frames) (l : length s ≡ 2 * frames .0) (g : 
 
 -- a group's parity differs exactly where a frame's does
 module _ (s : List ℤ) (frames : Frames) (l : length s ≡ 2 * frames .0) where
-  pub odd-frame : Some (λ g. not (parity (unwoven 2 (groupIn 2 s g)))) (groupsOf frames) → Some (oddFrame s) (frames .0)
+  odd-frame : Some (λ g. not (parity (unwoven 2 (groupIn 2 s g)))) (groupsOf frames) → Some (oddFrame s) (frames .0)
   unfolding active
   odd-frame o =
       let i = odd-in s frames l (o .at) (not-true _ (o .holds)) in
       let b = o .below in
       record { at = 512 * o .at + i .0; below = omega (arith, i .1); holds = i .2 }
 
-  pub odd-group : Some (oddFrame s) (frames .0) → Some (λ g. not (parity (unwoven 2 (groupIn 2 s g)))) (groupsOf frames)
+  odd-group : Some (oddFrame s) (frames .0) → Some (λ g. not (parity (unwoven 2 (groupIn 2 s g)))) (groupsOf frames)
   unfolding active groupsOf
   odd-group o =
       let b = o .below in

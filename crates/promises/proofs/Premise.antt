@@ -1,4 +1,5 @@
--- A template that its own samples change, as a sum leaves 32 bits: document 01's mid and side both −2147483648, raw at 32.
+-- A template that its own samples change, as a sum leaves 32 bits: document 01's mid and side both −2147483648, raw
+-- at 32; by computation.
 use Prim.Native.Nat.{ℕ}
 use mathlib.Core.Path.{_≡_, refl, ap}
 use mathlib.Core.Bool.{false}

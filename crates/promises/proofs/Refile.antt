@@ -1,4 +1,5 @@
 -- Re-encoding, then decoding, gives the samples back; re-encoding what the template decodes to gives the template.
+-- The new file has the template's layout, and its groups are the new ones.
 use Prim.Native.Nat.{ℕ, zero, suc, _+_, _-_, _*_, _≤_, _<_, min}
 use mathlib.Core.Path.{_≡_, refl, sym, ap, ap₂, _∙_, subst}
 use mathlib.Core.Bool.{true, not, _||_}
@@ -29,7 +30,7 @@ use Rattle.laws.proofs.Checks.{pass, _and-then_}
 use Rattle.laws.proofs.Each.{each-joined}
 use Rattle.laws.proofs.Wrap.{Fit, zero-fits}
 use Rattle.laws.proofs.Lengths.{group-writes, active-sum, decode-writes}
-use Rattle.laws.proofs.Channels.{group-starts, group-length, group-holds, groups-joined}
+use Rattle.laws.proofs.Channels.{some-active, group-starts, group-length, group-holds, groups-joined}
 use Rattle.promises.proofs.GroupCoding.{Group}
 use Rattle.promises.proofs.Laid.{Layout, between, open-says, decode-fine, decode-gives}
 use Rattle.laws.proofs.SampleChecks.{Valid, reencoder-ok, values-ok}
@@ -86,7 +87,7 @@ module _ (p : PcmSpec) (s : List ℤ) (t : List ℕ) (ok : checkReencode p s t �
         some = some;
         low = rw (F.bits-are p s t template) (writer .low);
         high = rw (F.bits-are p s t template) (writer .high);
-        begun = F.some-active (h .frames) g l;
+        begun = omega (arith, some-active (h .frames) g l);
         long = group-length (h .channels) (h .frames) s all-frames g;
         hold = group-holds (h .depth) (h .channels) s g (λ i. rw (F.bits-are p s t template) (values-ok p s (F.samples-ok p s t ok) (writer .depth) i));
         fine = F.groups-ok p s t ok g l;
@@ -199,7 +200,7 @@ module _ (p : PcmSpec) (s : List ℤ) (t : List ℕ) (ok : checkReencode p s t �
   group-offset : (k : ℕ) → k ≤ count → entry t h k ≡ length (joined (groupBytes t h) k)
   group-offset k l = sym (ap length (groups-so-far k l) ∙ length-from (h .start) (entry t h k) t (F.entry-within p s t template k l))
 
-  pub template-layout : Layout t h (groupBytes t h)
+  template-layout : Layout t h (groupBytes t h)
   template-layout =
       record {
         fields = refl;
@@ -239,7 +240,8 @@ module _ (p : PcmSpec) (s : List ℤ) (t : List ℕ) (ok : checkReencode p s t �
   pub template-fit : Fit (decodedOf t)
   template-fit = subst Fit (sym template-gives) (each-joined (SFits w32) (pos 0) zero-fits P count (λ g l. group-fit (accepted g l)))
 
-  -- what the template decodes to, re-encoded, where no mid plus side or mid minus side leaves 32 bits: sums wrap, so that others may be read as the same samples
+  -- what the template decodes to, re-encoded, where no mid plus side or mid minus side leaves 32 bits: sums wrap, so
+  -- that others may be read as the same samples
   module _ (byte : Below 256 t) (own : s ≡ decodedOf t) (none : NoneLeaves t) where
     P-length : (g : ℕ) → g < count → length (P g) ≡ h .channels * active (h .frames) g
     P-length g l = group-writes h Pcm (groupBytes t h g) some (templates-ok g l .fine) g

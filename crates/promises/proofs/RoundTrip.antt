@@ -1,4 +1,4 @@
--- Encoding, then decoding, gives the samples back.
+-- Encoding, then decoding, gives the samples back: every group does, and the table leads to each.
 use Prim.Native.Nat.{ℕ, _<_}
 use mathlib.Core.Path.{_≡_, refl, ap, _∙_, subst}
 use mathlib.Core.Bool.{Bool, true, false, not, _&&_}

@@ -1,4 +1,5 @@
--- The walk's steps joined are the whole decode, and it checks what they check, in order; what one step tells, by its answer and by its checks.
+-- The walk's steps joined are the whole decode, and it checks what they check, in order; what one step tells, by its
+-- answer and by its checks.
 use Prim.Native.Nat.{ℕ, _+_, _*_, _≤_, _<_}
 use mathlib.Core.Path.{_≡_, refl, sym, ap, ap₂, _∙_}
 use mathlib.Core.Bool.{Bool, true, false, cond}

@@ -1,4 +1,5 @@
--- The walk: its steps joined are the whole decode, which refuses exactly as the first refusing step; what each step leaves, and what it says when it is asked again.
+-- The walk: its steps joined are the whole decode, which refuses exactly as the first refusing step; what each step
+-- leaves, and what it says when it is asked again.
 use Prim.Native.Nat.{ℕ, zero, suc, _+_, _≤_, _<_}
 use mathlib.Core.Path.{_≡_, refl, sym, ap, _∙_, subst}
 use mathlib.Core.Bool.{Bool, true, false, cond}
@@ -33,7 +34,8 @@ use Rattle.promises.proofs.Certain.{refused-exactly, refusals-keep}
 abbrev pub done : Answer
 done = answeredBy Finished
 
--- A walk from the start over the file s, whose step at group g is lent `lent g`: `steps` steps that read, one group after another, and the first that reads nothing.
+-- A walk from the start over the file s, whose step at group g is lent `lent g`: `steps` steps that read, one group
+-- after another, and the first that reads nothing.
 pub record WholeWalk (s : List ℕ) (lent : ℕ → List ℤ) : Type 0 where
   pub steps : ℕ
   -- how many samples each read, and what it left

@@ -19,8 +19,8 @@ use Rattle.format.specs.declared.answers.Fields.{Fields}
 use Rattle.laws.proofs.Checks.{first-fine, others-fine, order-fine}
 use Rattle.laws.proofs.Over.{length-over}
 use Rattle.laws.proofs.Lengths.{group-writes, active-sum}
-use Rattle.lent.specs.Lent.{placed, wovenFrom}
-use Rattle.lent.proofs.Weave.{woven-from}
+use Rattle.lent_samples.specs.Lent.{placed, wovenFrom}
+use Rattle.lent_samples.proofs.Weave.{woven-from}
 use Rattle.group.specs.Readable.{Readable}
 use Rattle.opening.proofs.Groups.{channels-some, depth-8, depth-32, part-rises, part-within, part-is}
 

@@ -12,7 +12,8 @@ ghost use Rattle.format.specs.declared.refusals.Checked.the-variants.{Fine};
 // Each group in order.
 fn check_groups(file: &[u8], h: Fields, format: SampleFormat) -> Checked
     requires { ⌜ (checkOpen (now file) ≡ Fine) × (h ≡ fieldsOf (now file)) ⌝ }
-    ensures { λ r. ⌜ r ≡ inOrder (λ g. checkGroup h format (groupBytes (now (file .entry)) h g)) (groupsOf (h .frames)) ⌝ }
+    ensures { λ r. ⌜ (let file = now (file .entry) in
+        r ≡ inOrder (λ g. checkGroup h format (groupBytes file h g)) (groupsOf (h .frames))) ⌝ }
 {
     let frames = h.frames;
     let groups = frames.groups();
@@ -28,6 +29,7 @@ fn check_groups(file: &[u8], h: Fields, format: SampleFormat) -> Checked
     Checked::Fine
 }
 
+// Opening's checks, then those of every group.
 pub fn check_decode(file: &[u8]) -> Checked
     ensures { λ r. ⌜ r ≡ checkDecode (now (file .entry)) ⌝ }
 {

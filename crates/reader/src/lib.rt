@@ -1,22 +1,25 @@
-// Decoding: reader.rs of the Rust. Every refusal is found first; then samples are written.
+// Decoding: reader.rs of the Rust. Every refusal is found first; then samples are put.
 mod checking;
-mod writing;
+mod putting;
 
 use crate::checking::check_decode;
-use crate::writing::write_groups;
+use crate::putting::put_groups;
 use format::Answer;
 use format::Checked;
 use format::Outcome;
 use format::Refusal;
-use lent::Container;
+use lent_samples::Container;
 ghost use mathlib.Core.Path.{_≡_};
 ghost use Rattle.format.specs.Promises.{Decodes};
-ghost use Rattle.lent.specs.Lent.{lentOf, restOf};
+ghost use Rattle.lent_samples.specs.Lent.{lentOf, restOf};
 
-// Decoding into either container.
+// Decodes a file into samples that are lent in either container: how many were put at their front, or the refusal. Then
+// and behind what was put, all that is lent stays as it was.
 pub fn decode_lent(which: Container, file: &[u8], words: &mut [i32], bytes: &mut [u8]) -> Answer
-    ensures decodes { λ r. ⌜ Decodes (now (file .entry)) (lentOf which (now (words .entry)) (now (bytes .entry))) r (lentOf which (now (words .exit)) (now (bytes .exit))) ⌝ }
-    ensures keeps { λ _. ⌜ restOf which (now (words .exit)) (now (bytes .exit)) ≡ restOf which (now (words .entry)) (now (bytes .entry)) ⌝ }
+    ensures decodes { λ r. ⌜ (let lent = lentOf which (now (words .entry)) (now (bytes .entry)) in
+        Decodes (now (file .entry)) lent r (lentOf which (now (words .exit)) (now (bytes .exit)))) ⌝ }
+    ensures keeps { λ _. ⌜ (let rest = restOf which (now (words .entry)) (now (bytes .entry)) in
+        restOf which (now (words .exit)) (now (bytes .exit)) ≡ rest) ⌝ }
 {
     if let Checked::No(r) = check_decode(file) {
         return Answer::refused(r);
@@ -24,13 +27,14 @@ pub fn decode_lent(which: Container, file: &[u8], words: &mut [i32], bytes: &mut
     let h = header::read_fields(file);
     let frames = h.frames;
     let samples = frames.samples(h.channels);
-    if lent::count(which, words, bytes).0 < samples.0 {
+    if lent_samples::count(which, words, bytes).0 < samples.0 {
         return Answer::refused(Refusal::OutputTooShort);
     }
-    write_groups(which, words, bytes, file, h, opening::format_of(file, h));
+    put_groups(which, words, bytes, file, h, opening::format_of(file, h));
     Answer::of(Outcome::Read(samples))
 }
 
+// The same into numbers.
 pub fn decode_samples(file: &[u8], out: &mut [i32]) -> Answer
     ensures { λ r. ⌜ Decodes (now (file .entry)) (now (out .entry)) r (now (out .exit)) ⌝ }
 {

@@ -1,23 +1,27 @@
 // The job, and its report line by line. The first refusal is the last line.
+use crate::MOST_BYTES;
 use crate::text::print_count;
 use crate::text::print_done;
-use crate::text::print_opened;
 use format::Header;
 use format::Outcome;
-use remastered::Kept;
-use remastered::ReadBack;
-use remastered::Report;
-use remastered::Restored;
-use remastered::Rewritten;
+use remaster_job::Kept;
+use remaster_job::ReadBack;
+use remaster_job::Report;
+use remaster_job::Restored;
+use remaster_job::Rewritten;
 use report::print;
+use report::print_opened;
 ghost use mathlib.Core.Path.{_≡_};
 ghost use lib.ListN.{replicate};
 ghost use lib.IntN.{pos};
 
-fn room() -> [i32; 131072]
+// The most samples that are taken.
+const MOST_SAMPLES: usize = 131072;
+
+fn room() -> [i32; MOST_SAMPLES]
     ensures { λ r. ⌜ r ≡ replicate 131072 (pos 0) ⌝ }
 {
-    [0; 131072]
+    [0; MOST_SAMPLES]
 }
 
 // This and the next say whether there was no refusal.
@@ -42,6 +46,7 @@ fn print_rewritten(rewritten: Rewritten) -> bool {
     print_done(rewritten.written)
 }
 
+// What of the file is the same in what was written with the halved samples.
 fn print_kept(kept: Kept) {
     print(b", ");
     print_count(kept.all);
@@ -54,9 +59,10 @@ fn print_kept(kept: Kept) {
     print(b" bytes behind the data\n");
 }
 
+// What is found in what was written.
 fn print_back(back: ReadBack) {
     print(b"open what was written: ");
-    print_opened(back.opened);
+    print_opened(back.opened, b", ");
     print(b"decode what was written: ");
     if print_done(back.decoded) {} else {
         return;
@@ -81,11 +87,12 @@ fn print_report(report: Report) {
     print_back(report.back);
 }
 
+// The job on a file that opens, with as much room as its samples ask for.
 fn run_opened(file: &[u8], h: Header, out: &mut [u8]) {
     let frames = h.frames;
     let samples = frames.samples(h.channels);
     let n = samples.0 as usize;
-    if 131072 < n {
+    if MOST_SAMPLES < n {
         print(b"too large\n");
         return;
     }
@@ -93,7 +100,7 @@ fn run_opened(file: &[u8], h: Header, out: &mut [u8]) {
     let mut new = room();
     let mut read = room();
     let mut again = io::large_buffer();
-    print_report(remastered::job(
+    print_report(remaster_job::job(
         file,
         h,
         &mut old[..n],
@@ -104,16 +111,17 @@ fn run_opened(file: &[u8], h: Header, out: &mut [u8]) {
     ));
 }
 
+// Does the job on a file and prints its report.
 pub fn run(file: &[u8]) {
     let mut out = io::large_buffer();
     let n = file.len();
-    if 65536 < n {
+    if MOST_BYTES < n {
         print(b"too large\n");
         return;
     }
     print(b"open: ");
     let answer = opening::open(file);
-    print_opened(answer);
+    print_opened(answer, b", ");
     let outcome = answer.outcome;
     if let Outcome::Opened(h) = outcome {
         run_opened(file, h, &mut out[..n]);

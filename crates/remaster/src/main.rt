@@ -6,11 +6,14 @@ use libc::STDERR_FILENO;
 ghost use mathlib.Core.Path.{_≡_};
 ghost use lib.ListN.{replicate};
 
-// One byte more than is taken.
-fn buffer() -> [u8; 65537]
+// The largest file that is taken.
+pub const MOST_BYTES: usize = 65536;
+
+// One byte more than is taken: a larger file is known by it.
+fn buffer() -> [u8; MOST_BYTES + 1]
     ensures { λ r. ⌜ r ≡ replicate 65537 0 ⌝ }
 {
-    [0; 65537]
+    [0; MOST_BYTES + 1]
 }
 
 fn run(fd: i32) {

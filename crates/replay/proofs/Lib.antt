@@ -1,1 +1,2 @@
+-- what is kept of a room
 pub mod Keeping

@@ -3,7 +3,7 @@ use Prim.Native.Nat.{ℕ}
 use mathlib.Core.Bool.{false, _&&_, cond}
 use lib.Dec.{leb, eqb}
 use Rattle.format.specs.declared.settings.PcmSpec.{PcmSpec}
-use Rattle.recorded.specs.declared.answers.Verdict.{Verdict}
+use Rattle.replay_list.specs.declared.answers.Verdict.{Verdict}
 use Rattle.replay.specs.declared.items.Place.{Place}
 
 -- a place that no room reaches
@@ -29,15 +29,25 @@ startOf = record {
 abbrev pub specOf : Place → PcmSpec
 specOf place = record { channels = place .channels; «bits_per_sample» = place .depth; «sample_rate» = place .rate }
 
--- after a question of that kind: decoding, 17, read so many bytes, and encoding, 19, or re-encoding, 20, wrote them;
--- nothing is false on purpose any more
+-- the kinds of three questions in the list: decoding, encoding, re-encoding
+abbrev pub decode : ℕ
+decode = 17
+
+abbrev pub encode : ℕ
+encode = 19
+
+abbrev pub reencode : ℕ
+reencode = 20
+
+-- after a question of that kind: decoding read so many bytes, and encoding or re-encoding wrote them; nothing is
+-- false on purpose any more
 unfoldable pub placeAfter : ℕ → Place → Verdict → Place
 placeAfter kind place verdict = record {
   items = place .items;
   file = place .file;
   samples = place .samples;
-  read = cond (eqb kind 17) (verdict .length) (place .read);
-  written = cond (leb 19 kind && leb kind 20) (verdict .length) (place .written);
+  read = cond (eqb kind decode) (verdict .length) (place .read);
+  written = cond (leb encode kind && leb kind reencode) (verdict .length) (place .written);
   channels = place .channels;
   depth = place .depth;
   rate = place .rate;

@@ -1,7 +1,9 @@
 // What the list puts into the two spaces, and where it stands.
-use recorded::read_drawn;
-use recorded::read_u16;
-use recorded::read_u32;
+use replay_list::SPACE;
+use replay_list::kinds;
+use replay_list::read_drawn;
+use replay_list::read_u16;
+use replay_list::read_u32;
 use std::num::wrapping_add_u64;
 ghost use mathlib.Core.Path.{_≡_};
 ghost use Prim.Native.Nat.{min};
@@ -25,9 +27,10 @@ pub struct Place {
     pub spoiled: usize,
 }
 
-// No room reaches so far.
+// Nothing is changed on purpose: no room reaches so far.
 pub const NOWHERE: usize = 65536;
 
+// Before the first item.
 pub fn start() -> Place
     ensures { λ r. ⌜ r ≡ startOf ⌝ }
 {
@@ -45,7 +48,7 @@ pub fn start() -> Place
     }
 }
 
-// At most n bytes of the space.
+// n, or the length of the space where that is less.
 pub fn part(space: &[u8], n: usize) -> usize
     ensures is { λ r. ⌜ r ≡ min n (length (now (space .entry))) ⌝ }
     ensures counts { λ r. ⌜ Counts r (now (space .entry)) ⌝ }
@@ -53,29 +56,32 @@ pub fn part(space: &[u8], n: usize) -> usize
     if n < space.len() { n } else { space.len() }
 }
 
+// Puts bytes into the space: where to, how many and which the list says.
 fn put(list: i32, space: &mut [u8]) {
     let at = read_u16(list) as usize;
     let n = read_u16(list) as usize;
-    recorded::put(list, space, at, n);
+    replay_list::put(list, space, at, n);
 }
 
+// Puts drawn numbers into the space: where to, how many and how they are drawn the list says.
 fn draw(list: i32, space: &mut [u8]) {
     let at = read_u16(list) as usize;
     let n = read_u16(list) as usize;
     let drawn = read_drawn(list);
-    recorded::draw(space, at, n, drawn);
+    replay_list::draw(space, at, n, drawn);
 }
 
-// The first n bytes of the room, at the start of the space.
+// Keeps the first n bytes of the room at the start of the space.
 fn keep(space: &mut [u8], room: &[u8], n: usize)
     ensures { λ _. ⌜ now (space .exit) ≡ kept (now (space .entry)) (now (room .entry)) n ⌝ }
 {
     let n = part(room, n);
     if n <= space.len() {
-        write_bytes::copy(space, &room[..n]);
+        le_bytes::copy(space, &room[..n]);
     }
 }
 
+// What an item that is no question changes in the spaces.
 fn put_item(
     list: i32,
     kind: u32,
@@ -86,12 +92,12 @@ fn put_item(
     written: &[u8],
 ) {
     match kind {
-        3 => put(list, file),
-        4 => put(list, samples),
-        5 => draw(list, file),
-        6 => draw(list, samples),
-        7 => keep(file, written, place.written),
-        8 => keep(samples, read, place.read),
+        kinds::PUT_FILE => put(list, file),
+        kinds::PUT_SAMPLES => put(list, samples),
+        kinds::DRAW_FILE => draw(list, file),
+        kinds::DRAW_SAMPLES => draw(list, samples),
+        kinds::KEEP_WRITTEN => keep(file, written, place.written),
+        kinds::KEEP_READ => keep(samples, read, place.read),
         _ => {}
     }
 }
@@ -101,27 +107,27 @@ fn place_after(list: i32, kind: u32, place: Place) -> Place {
     let mut after = place;
     after.items = wrapping_add_u64(place.items, 1);
     match kind {
-        1 => {
+        kinds::FILE_LENGTH => {
             after.file = read_u16(list) as usize;
         }
-        2 => {
+        kinds::SAMPLES_LENGTH => {
             after.samples = read_u16(list) as usize;
         }
-        7 => {
+        kinds::KEEP_WRITTEN => {
             after.file = place.written;
         }
-        8 => {
+        kinds::KEEP_READ => {
             after.samples = place.read;
         }
-        9 => {
+        kinds::SETTINGS => {
             after.channels = read_u16(list);
             after.depth = read_u16(list);
             after.rate = read_u32(list);
         }
-        32 => {
+        kinds::FALSE_ANSWER => {
             after.is_false = true;
         }
-        33 => {
+        kinds::SPOILED_ROOM => {
             after.is_false = true;
             after.spoiled = read_u16(list) as usize;
         }
@@ -130,14 +136,15 @@ fn place_after(list: i32, kind: u32, place: Place) -> Place {
     after
 }
 
+// Does what an item says that is no question, and answers where the list then stands. A question is only counted.
 pub fn follow(
     list: i32,
     kind: u32,
     place: Place,
-    file: &mut [u8; 16384],
-    samples: &mut [u8; 16384],
-    read: &[u8; 16384],
-    written: &[u8; 16384],
+    file: &mut [u8; SPACE],
+    samples: &mut [u8; SPACE],
+    read: &[u8; SPACE],
+    written: &[u8; SPACE],
 ) -> Place {
     put_item(list, kind, place, file, samples, read, written);
     place_after(list, kind, place)

@@ -2,20 +2,25 @@
 mod items;
 mod questions;
 
-use items::Place;
+use replay_counts::COUNTS;
+use replay_list::MOST_SAMPLES;
+use replay_list::SPACE;
 
-// The items of a list. Turns are counted, since nothing says that a list ends.
-fn replay(list: i32, counts: &mut [u64; 1536]) {
-    let mut file = [0u8; 16384];
-    let mut samples = [0u8; 16384];
-    let mut words = [0i32; 4096];
-    let mut read = [0u8; 16384];
-    let mut written = [0u8; 16384];
+// The most items that are followed.
+const MOST_TURNS: u64 = 10_000_000;
+
+// Follows the items of a list and counts its answers. Turns are counted, since nothing says that a list ends.
+fn replay(list: i32, counts: &mut [u64; COUNTS]) {
+    let mut file = [0u8; SPACE];
+    let mut samples = [0u8; SPACE];
+    let mut words = [0i32; MOST_SAMPLES];
+    let mut read = [0u8; SPACE];
+    let mut written = [0u8; SPACE];
     let mut place = items::start();
     let mut turns: u64 = 0;
-    while turns < 10_000_000 {
-        let kind = recorded::read_u8(list);
-        if kind == 0 {
+    while turns < MOST_TURNS {
+        let kind = replay_list::read_u8(list);
+        if kind == replay_list::kinds::END {
             return;
         }
         place = items::follow(list, kind, place, &mut file, &mut samples, &read, &written);
@@ -42,7 +47,7 @@ fn main() {
         os::fail(&path[..length]);
         return;
     }
-    let mut counts = [0u64; 1536];
+    let mut counts = [0u64; COUNTS];
     replay(list, &mut counts);
-    counted::print_counts(&counts);
+    replay_counts::print_counts(&counts);
 }

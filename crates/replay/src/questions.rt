@@ -3,15 +3,19 @@ use crate::items::NOWHERE;
 use crate::items::Place;
 use crate::items::part;
 use format::PcmSpec;
-use recorded::Verdict;
-use recorded::read_u16;
-use recorded::read_u32;
+use replay_counts::COUNTS;
+use replay_list::MOST_SAMPLES;
+use replay_list::SPACE;
+use replay_list::Verdict;
+use replay_list::kinds;
+use replay_list::read_u16;
+use replay_list::read_u32;
 ghost use mathlib.Core.Path.{_≡_};
 ghost use Prim.Native.Nat.{_≤_, min};
 ghost use lib.ListN.{length, take};
 ghost use Rattle.replay.specs.Places.{specOf, placeAfter};
 
-// At most n samples of the room.
+// n, or the length of the room where that is less.
 fn words_of(room: &[i32], n: usize) -> usize
     ensures is { λ r. ⌜ r ≡ min n (length (now (room .entry))) ⌝ }
     ensures counts { λ r. ⌜ (r ≤ length (now (room .entry))) × (r ≡ length (take r (now (room .entry)))) ⌝ }
@@ -19,9 +23,10 @@ fn words_of(room: &[i32], n: usize) -> usize
     if n < room.len() { n } else { room.len() }
 }
 
+// `open`, `decode`, `step`, `encode` and `reencode` ask one question each.
 fn open(list: i32, place: Place, file: &[u8]) -> Verdict {
     let n = part(file, place.file);
-    asked_reading::open(list, &file[..n])
+    replay_reading::open(list, &file[..n])
 }
 
 fn decode(list: i32, place: Place, file: &[u8], words: &mut [i32], bytes: &mut [u8]) -> Verdict {
@@ -29,7 +34,7 @@ fn decode(list: i32, place: Place, file: &[u8], words: &mut [i32], bytes: &mut [
     let n = part(file, place.file);
     let m = words_of(words, asked);
     let k = part(bytes, 4 * asked);
-    asked_reading::decode(
+    replay_reading::decode(
         list,
         &file[..n],
         place.spoiled,
@@ -43,9 +48,10 @@ fn step(list: i32, place: Place, file: &[u8], words: &mut [i32]) -> Verdict {
     let asked = read_u16(list) as usize;
     let n = part(file, place.file);
     let m = words_of(words, asked);
-    asked_reading::step(list, &file[..n], group, place.spoiled, &mut words[..m])
+    replay_reading::step(list, &file[..n], group, place.spoiled, &mut words[..m])
 }
 
+// The settings that the list has put.
 fn spec_of(place: Place) -> PcmSpec
     ensures { λ r. ⌜ r ≡ specOf place ⌝ }
 {
@@ -61,7 +67,7 @@ fn encode(list: i32, place: Place, samples: &[u8], room: &mut [u8]) -> Verdict {
     let asked = read_u16(list) as usize;
     let n = part(samples, place.samples);
     let m = part(room, asked);
-    asked_writing::encode(
+    replay_writing::encode(
         list,
         &samples[..n],
         spec_of(place),
@@ -76,7 +82,7 @@ fn reencode(list: i32, place: Place, samples: &[u8], file: &[u8], room: &mut [u8
     let n = part(samples, place.samples);
     let k = part(file, place.file);
     let m = part(room, asked);
-    asked_writing::reencode(
+    replay_writing::reencode(
         list,
         &samples[..n],
         spec_of(place),
@@ -86,6 +92,7 @@ fn reencode(list: i32, place: Place, samples: &[u8], file: &[u8], room: &mut [u8
     )
 }
 
+// Whether the question is answered as recorded.
 fn ask(
     list: i32,
     kind: u32,
@@ -97,10 +104,10 @@ fn ask(
     written: &mut [u8],
 ) -> Verdict {
     match kind {
-        16 => open(list, place, file),
-        17 => decode(list, place, file, words, read),
-        18 => step(list, place, file, words),
-        19 => encode(list, place, samples, written),
+        kinds::OPEN => open(list, place, file),
+        kinds::DECODE => decode(list, place, file, words, read),
+        kinds::STEP => step(list, place, file, words),
+        kinds::ENCODE => encode(list, place, samples, written),
         _ => reencode(list, place, samples, file, written),
     }
 }
@@ -113,10 +120,10 @@ fn place_after(kind: u32, place: Place, verdict: Verdict) -> Place
     after.is_false = false;
     after.spoiled = NOWHERE;
     match kind {
-        17 => {
+        kinds::DECODE => {
             after.read = verdict.length as usize;
         }
-        19..=20 => {
+        kinds::ENCODE..=kinds::REENCODE => {
             after.written = verdict.length as usize;
         }
         _ => {}
@@ -124,25 +131,25 @@ fn place_after(kind: u32, place: Place, verdict: Verdict) -> Place
     after
 }
 
-// The item is asked and counted, if it is a question.
+// If the item is a question, it is asked and counted. Answers where the list then stands.
 pub fn answer(
     list: i32,
     kind: u32,
     place: Place,
-    file: &[u8; 16384],
-    samples: &[u8; 16384],
-    words: &mut [i32; 4096],
-    read: &mut [u8; 16384],
-    written: &mut [u8; 16384],
-    counts: &mut [u64; 1536],
+    file: &[u8; SPACE],
+    samples: &[u8; SPACE],
+    words: &mut [i32; MOST_SAMPLES],
+    read: &mut [u8; SPACE],
+    written: &mut [u8; SPACE],
+    counts: &mut [u64; COUNTS],
 ) -> Place {
-    if kind < 16 {
+    if kind < kinds::OPEN {
         return place;
     }
-    if 20 < kind {
+    if kinds::REENCODE < kind {
         return place;
     }
     let verdict = ask(list, kind, place, file, samples, words, read, written);
-    counted::tally(counts, place.items, kind, place.is_false, verdict);
+    replay_counts::tally(counts, place.items, kind, place.is_false, verdict);
     place_after(kind, place, verdict)
 }

@@ -1,9 +1,8 @@
-// What the programs print.
+// What programs print: words, numbers, refusals, what opening says.
 mod opened;
 mod text;
 
-pub use opened::open_input;
+pub use opened::print_opened;
 pub use text::print;
-pub use text::print_format;
 pub use text::print_number;
 pub use text::print_refusal;

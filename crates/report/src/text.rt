@@ -3,14 +3,17 @@ use format::Refusal;
 use format::SampleFormat;
 use libc::STDOUT_FILENO;
 
+// Prints the text as it is.
 pub fn print(text: &[u8]) {
     io::write_all(STDOUT_FILENO, text);
 }
 
+// Prints the number in decimal.
 pub fn print_number(n: u64) {
     io::print_decimal(STDOUT_FILENO, n);
 }
 
+// The bits are of two's complement: from 2^31 on the number is negative.
 fn print_signed(n: i16) {
     let bits = sample::bits_of(n as i32);
     if bits < 0x8000_0000 {
@@ -21,6 +24,7 @@ fn print_signed(n: i16) {
     }
 }
 
+// Prints the name of the sample format.
 pub fn print_format(format: SampleFormat) {
     match format {
         SampleFormat::Pcm => print(b"pcm"),
@@ -28,7 +32,7 @@ pub fn print_format(format: SampleFormat) {
     }
 }
 
-// The refusal's number, and 4's bits word.
+// Prints the refusal's number. Number 4 also tells the bits word that was read.
 pub fn print_refusal(r: Refusal) {
     print(b"refused ");
     print_number(r.number() as u64);

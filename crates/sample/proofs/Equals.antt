@@ -1,4 +1,5 @@
--- The test of two samples decides whether they are equal.
+-- The test of two samples decides whether they are equal, and so does the code's test of their bits: different
+-- samples of 32 bits have different bits.
 use mathlib.Core.Path.{_≡_, refl, sym, ap, _∙_}
 use mathlib.Core.Bool.{Bool, true, false}
 use lib.IntN.{ℤ, pos, negsuc}

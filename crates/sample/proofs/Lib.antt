@@ -1,5 +1,3 @@
--- The laws that the proofs of this crate cite.
+-- Samples and their 32 bits; whether two are equal.
 pub mod Words
-pub mod Nans
-pub mod Halving
 pub mod Equals

@@ -1,5 +1,6 @@
 -- Signed numbers and their 32 bits, and what calls with signed arguments ensure.
--- (A signed argument reaches its callee, and a signed result its caller, as what the machine reads back from the bits: `toZ w32 (ofZ w32 z)`.)
+-- (A signed argument reaches its callee, and a signed result its caller, as what the machine reads back from the
+-- bits: `toZ w32 (ofZ w32 z)`.)
 use mathlib.Core.Path.{_≡_, refl, ap, ap₂, _∙_}
 use mathlib.Core.Bool.{true, false}
 use Prim.Native.Nat.{ℕ, _+_, _-_, _%_, _^_, _<_}

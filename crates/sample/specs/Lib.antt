@@ -1,3 +1,2 @@
-pub mod Patterns
-pub mod Raised
 pub mod Equal
+pub mod Raised

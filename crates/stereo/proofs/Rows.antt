@@ -1,4 +1,5 @@
--- The parity of every pair of two rows of samples: tested one after another, and of the pairs that a loop has yet to do.
+-- The parity of every pair of two rows of samples: tested one after another, and of the pairs that a loop has yet to
+-- do.
 use Prim.Native.Nat.{ℕ, _+_, _^_, _≤_, _<_}
 use mathlib.Core.Path.{_≡_, sym, ap₂, _∙_}
 use mathlib.Core.Bool.{Bool, true, false, _&&_}

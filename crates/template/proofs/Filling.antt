@@ -18,7 +18,7 @@ use Rattle.format.specs.declared.answers.Fields.{Fields}
 use Rattle.laws.proofs.Over.{sets-join, lent-sets, length-over, over-within}
 use Rattle.laws.proofs.Parts.{one-more}
 use Rattle.laws.proofs.TemplateFiles.{long-ok, end-ok, entry-within, samples-ok, template-ok, groups-ok, entries-same, size-is, file-is}
-use Rattle.lent.specs.Lent.{framesFrom}
+use Rattle.lent_samples.specs.Lent.{framesFrom}
 use Rattle.template.proofs.Groups.{partOf, part-rises, part-within, part-new, part-fine}
 
 -- the new groups

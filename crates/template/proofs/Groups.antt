@@ -16,8 +16,9 @@ use Rattle.format.specs.declared.settings.PcmSpec.{PcmSpec}
 use Rattle.format.specs.declared.answers.Fields.{Fields}
 use Rattle.laws.proofs.SampleChecks.{reencoder-ok}
 use Rattle.laws.proofs.TemplateFiles as files
-use Rattle.lent.specs.Lent.{framesFrom}
-use Rattle.group.proofs.Frames.{group-frames, group-inside, active-some}
+use Rattle.lent_samples.specs.Lent.{framesFrom}
+use Rattle.laws.proofs.Channels.{some-active}
+use Rattle.group.proofs.Frames.{group-frames, group-inside}
 
 -- ---- the settings that passed
 module _ (p : PcmSpec) (spec : checkReencoder p ≡ Fine) where
@@ -81,7 +82,7 @@ module _ (p : PcmSpec) (s : List ℤ) (t : List ℕ) (h : Fields) (template : ch
       all-frames = rw (← channels-are) (rw reads (files.all-frames p s t template samples))
 
       pub frames-some : 0 < n
-      frames-some = rw count (active-some (h .frames) g inside)
+      frames-some = rw count (some-active (h .frames) g inside)
 
       pub frames-inside : (512 * g + n) * p .channels ≤ length s
       frames-inside = rw count (group-inside (p .channels) (h .frames) s all-frames g inside)

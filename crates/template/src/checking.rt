@@ -1,11 +1,11 @@
-// Every refusal but 50, in order.
+// Every refusal but 50 (the output is too short), in order.
 use format::Checked;
 use format::Depth;
 use format::Fields;
 use format::Frames;
 use format::PcmSpec;
 use format::Refusal;
-use lent::Container;
+use lent_samples::Container;
 ghost use mathlib.Core.Path.{_≡_};
 ghost use Prim.Native.Nat.{_+_, _*_, _≤_};
 ghost use lib.Dec.{leb};
@@ -16,9 +16,9 @@ ghost use Rattle.format.specs.Refusals.{inOrder};
 ghost use Rattle.format.specs.Encoding.{groupIn, checkSamples};
 ghost use Rattle.format.specs.Reencoding.{checkReencoder, checkReencodeGroup, checkSame, checkBounds, checkRising, checkTemplate, checkReencode};
 ghost use Rattle.format.specs.declared.refusals.Checked.the-variants.{Fine};
-ghost use Rattle.lent.specs.Lent.{lentOf};
+ghost use Rattle.lent_samples.specs.Lent.{lentOf};
 
-// 40.
+// 40: the template is of other settings or another number of frames.
 fn check_same(p: PcmSpec, frames: Frames, h: Fields) -> Checked
     ensures { λ r. ⌜ r ≡ checkSame p frames h ⌝ }
 {
@@ -37,7 +37,7 @@ fn check_same(p: PcmSpec, frames: Frames, h: Fields) -> Checked
     Checked::Fine
 }
 
-// 41: what opening refuses by 13 to 15 and 1.
+// 41: its table or its data do not lie where they can; what opening refuses by 13 to 15 and 1.
 fn check_bounds(h: Fields, n: usize) -> Checked
     ensures { λ r. ⌜ r ≡ checkBounds h n ⌝ }
 {
@@ -50,7 +50,8 @@ fn check_bounds(h: Fields, n: usize) -> Checked
 // Whether an entry of the first n is not below the next.
 fn any_falls(t: &[u8], h: Fields, n: u32) -> bool
     requires { ⌜ (n ≤ 8388608) × (h .table + 4 * (n + 1) ≤ length (now t)) ⌝ }
-    ensures { λ r. ⌜ r ≡ anyBelow (λ k. leb (entry (now (t .entry)) h (k + 1)) (entry (now (t .entry)) h k)) n ⌝ }
+    ensures { λ r. ⌜ (let file = now (t .entry) in
+        r ≡ anyBelow (λ k. leb (entry file h (k + 1)) (entry file h k)) n) ⌝ }
 {
     let mut k: u32 = 0;
     while k < n {
@@ -62,7 +63,7 @@ fn any_falls(t: &[u8], h: Fields, n: u32) -> bool
     false
 }
 
-// 42.
+// 42: the table does not rise from 0 to the data's size.
 fn check_rising(t: &[u8], h: Fields) -> Checked
     requires { ⌜ h .table + 4 * (groupsOf (h .frames) + 1) ≤ length (now t) ⌝ }
     ensures { λ r. ⌜ r ≡ checkRising (now (t .entry)) h ⌝ }
@@ -81,10 +82,11 @@ fn check_rising(t: &[u8], h: Fields) -> Checked
     Checked::Fine
 }
 
-// 1 (under 120 bytes), 2, 40, 41, 42.
+// The template as a whole. 1: under 120 bytes; 2: not the signature; then 40 to 42.
 fn check_template(which: Container, words: &[i32], bytes: &[u8], p: PcmSpec, t: &[u8]) -> Checked
     requires { ⌜ (checkReencoder p ≡ Fine) × (checkSamples p (lentOf which (now words) (now bytes)) ≡ Fine) ⌝ }
-    ensures { λ r. ⌜ r ≡ checkTemplate p (lentOf which (now (words .entry)) (now (bytes .entry))) (now (t .entry)) ⌝ }
+    ensures { λ r. ⌜ (let lent = lentOf which (now (words .entry)) (now (bytes .entry)) in
+        r ≡ checkTemplate p lent (now (t .entry))) ⌝ }
 {
     if t.len() < Depth::HEADER_SIZE {
         return Checked::No(Refusal::TooShort);
@@ -93,7 +95,7 @@ fn check_template(which: Container, words: &[i32], bytes: &[u8], p: PcmSpec, t: 
         return Checked::No(Refusal::FileSignature);
     }
     let h = header::read_fields(t);
-    let frames = pcm::frames_of(which, words, bytes, p.channels);
+    let frames = validate::frames_of(which, words, bytes, p.channels);
     if let Checked::No(r) = check_same(p, frames, h) {
         return Checked::No(r);
     }
@@ -112,8 +114,14 @@ fn check_groups(
     t: &[u8],
     h: Fields,
 ) -> Checked
-    requires { ⌜ (checkReencoder p ≡ Fine) × (checkSamples p (lentOf which (now words) (now bytes)) ≡ Fine) × (checkTemplate p (lentOf which (now words) (now bytes)) (now t) ≡ Fine) × (h ≡ fieldsOf (now t)) ⌝ }
-    ensures { λ r. ⌜ r ≡ inOrder (λ g. checkReencodeGroup (h .depth) (h .channels) (groupBytes (now (t .entry)) h g) (groupIn (h .channels) (lentOf which (now (words .entry)) (now (bytes .entry))) g)) (groupsOf (h .frames)) ⌝ }
+    requires { ⌜ (let lent = lentOf which (now words) (now bytes) in
+        (checkReencoder p ≡ Fine) × (checkSamples p lent ≡ Fine) × (checkTemplate p lent (now t) ≡ Fine)
+        × (h ≡ fieldsOf (now t))) ⌝ }
+    ensures { λ r. ⌜ (let lent = lentOf which (now (words .entry)) (now (bytes .entry)) in
+        let file = now (t .entry) in
+        r ≡ inOrder
+        (λ g. checkReencodeGroup (h .depth) (h .channels) (groupBytes file h g) (groupIn (h .channels) lent g))
+        (groupsOf (h .frames))) ⌝ }
 {
     let start = h.start as usize;
     let frames = h.frames;
@@ -123,14 +131,13 @@ fn check_groups(
         let a = start + header::entry_at(t, h, g) as usize;
         let e = start + header::entry_at(t, h, g + 1) as usize;
         let n = frames.active(g).0 as usize;
-        if let Checked::No(r) = template_group::check_new_group(
+        if let Checked::No(r) = reencode_group::check_reencode_group(
             which,
             words,
             bytes,
             Depth::SAMPLES_PER_BLOCK * g as usize,
             n,
-            p.channels,
-            p.bits_per_sample,
+            p,
             &t[a..e],
         ) {
             return Checked::No(r);
@@ -148,12 +155,13 @@ pub fn check_reencode(
     p: PcmSpec,
     t: &[u8],
 ) -> Checked
-    ensures { λ r. ⌜ r ≡ checkReencode p (lentOf which (now (words .entry)) (now (bytes .entry))) (now (t .entry)) ⌝ }
+    ensures { λ r. ⌜ (let lent = lentOf which (now (words .entry)) (now (bytes .entry)) in
+        r ≡ checkReencode p lent (now (t .entry))) ⌝ }
 {
-    if let Checked::No(r) = pcm::check_reencoder(p) {
+    if let Checked::No(r) = validate::check_reencoder(p) {
         return Checked::No(r);
     }
-    if let Checked::No(r) = pcm::check_samples(which, words, bytes, p) {
+    if let Checked::No(r) = validate::check_samples(which, words, bytes, p) {
         return Checked::No(r);
     }
     if let Checked::No(r) = check_template(which, words, bytes, p, t) {

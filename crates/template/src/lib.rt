@@ -9,11 +9,12 @@ use format::Checked;
 use format::Outcome;
 use format::PcmSpec;
 use format::Refusal;
-use lent::Container;
+use lent_samples::Container;
 ghost use Rattle.format.specs.Promises.{Reencodes};
-ghost use Rattle.lent.specs.Lent.{lentOf};
+ghost use Rattle.lent_samples.specs.Lent.{lentOf};
 
-// Re-encoding from either container. Of bytes the whole samples are taken, as in `writer::encode_lent`.
+// Re-encodes samples that are lent in either container, with a file as template: the length of the new file, which is
+// the template's, or the refusal. Of bytes the whole samples are taken, as in `writer::encode_lent`.
 pub fn reencode_lent(
     which: Container,
     words: &[i32],
@@ -22,7 +23,8 @@ pub fn reencode_lent(
     template: &[u8],
     out: &mut [u8],
 ) -> Answer
-    ensures { λ r. ⌜ Reencodes p (lentOf which (now (words .entry)) (now (bytes .entry))) (now (template .entry)) (now (out .entry)) r (now (out .exit)) ⌝ }
+    ensures { λ r. ⌜ (let lent = lentOf which (now (words .entry)) (now (bytes .entry)) in
+        Reencodes p lent (now (template .entry)) (now (out .entry)) r (now (out .exit))) ⌝ }
 {
     if let Checked::No(r) = check_reencode(which, words, bytes, p, template) {
         return Answer::refused(r);
@@ -34,13 +36,15 @@ pub fn reencode_lent(
     Answer::of(Outcome::Wrote(template.len() as u64))
 }
 
+// The same of numbers.
 pub fn encode_pcm_with_template(
     samples: &[i32],
     spec: PcmSpec,
     template: &[u8],
     out: &mut [u8],
 ) -> Answer
-    ensures { λ r. ⌜ Reencodes spec (now (samples .entry)) (now (template .entry)) (now (out .entry)) r (now (out .exit)) ⌝ }
+    ensures { λ r. ⌜ (let lent = now (samples .entry) in
+        Reencodes spec lent (now (template .entry)) (now (out .entry)) r (now (out .exit))) ⌝ }
 {
     reencode_lent(Container::Words, samples, &[], spec, template, out)
 }

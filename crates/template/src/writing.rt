@@ -1,7 +1,7 @@
 // The file: the template's bytes, and over them each new group in its own part.
 use format::Depth;
 use format::PcmSpec;
-use lent::Container;
+use lent_samples::Container;
 ghost use mathlib.Core.Path.{_≡_};
 ghost use Prim.Native.Nat.{_≤_};
 ghost use lib.ListN.{length};
@@ -11,12 +11,19 @@ ghost use Rattle.format.specs.Header.{fieldsOf, groupsOf, groupBytes};
 ghost use Rattle.format.specs.Encoding.{groupIn};
 ghost use Rattle.format.specs.Reencoding.{reencodedGroup, checkReencode, reencodedFile};
 ghost use Rattle.format.specs.declared.refusals.Checked.the-variants.{Fine};
-ghost use Rattle.lent.specs.Lent.{lentOf};
+ghost use Rattle.lent_samples.specs.Lent.{lentOf};
 
 // Each group where the table says.
 fn write_groups(which: Container, words: &[i32], bytes: &[u8], p: PcmSpec, t: &[u8], out: &mut [u8])
-    requires { ⌜ (checkReencode p (lentOf which (now words) (now bytes)) (now t) ≡ Fine) × (length (now t) ≤ length (now out)) ⌝ }
-    ensures { λ _. ⌜ now (out .exit) ≡ sets (now (out .entry)) (fieldsOf (now (t .entry)) .start) (joined (λ g. reencodedGroup (fieldsOf (now (t .entry)) .depth) (fieldsOf (now (t .entry)) .channels) (groupBytes (now (t .entry)) (fieldsOf (now (t .entry))) g) (groupIn (fieldsOf (now (t .entry)) .channels) (lentOf which (now (words .entry)) (now (bytes .entry))) g)) (groupsOf (fieldsOf (now (t .entry)) .frames))) ⌝ }
+    requires { ⌜ (checkReencode p (lentOf which (now words) (now bytes)) (now t) ≡ Fine)
+        × (length (now t) ≤ length (now out)) ⌝ }
+    ensures { λ _. ⌜ (let lent = lentOf which (now (words .entry)) (now (bytes .entry)) in
+        let file = now (t .entry) in
+        let h = fieldsOf file in
+        let groups = joined
+        (λ g. reencodedGroup (h .depth) (h .channels) (groupBytes file h g) (groupIn (h .channels) lent g))
+        (groupsOf (h .frames)) in
+        now (out .exit) ≡ sets (now (out .entry)) (h .start) groups) ⌝ }
 {
     let h = header::read_fields(t);
     let start = h.start as usize;
@@ -27,21 +34,21 @@ fn write_groups(which: Container, words: &[i32], bytes: &[u8], p: PcmSpec, t: &[
         let a = start + header::entry_at(t, h, g) as usize;
         let e = start + header::entry_at(t, h, g + 1) as usize;
         let n = frames.active(g).0 as usize;
-        template_group::write_new_group(
+        reencode_group::reencode_group(
             &mut out[a..],
             which,
             words,
             bytes,
             Depth::SAMPLES_PER_BLOCK * g as usize,
             n,
-            p.channels,
-            p.bits_per_sample,
+            p,
             &t[a..e],
         );
         g += 1;
     }
 }
 
+// The whole new file, at the front of what is lent.
 pub fn write_file(
     which: Container,
     words: &[i32],
@@ -50,9 +57,11 @@ pub fn write_file(
     t: &[u8],
     out: &mut [u8],
 )
-    requires { ⌜ (checkReencode p (lentOf which (now words) (now bytes)) (now t) ≡ Fine) × (length (now t) ≤ length (now out)) ⌝ }
-    ensures { λ _. ⌜ now (out .exit) ≡ over (reencodedFile (lentOf which (now (words .entry)) (now (bytes .entry))) (now (t .entry))) (now (out .entry)) ⌝ }
+    requires { ⌜ (checkReencode p (lentOf which (now words) (now bytes)) (now t) ≡ Fine)
+        × (length (now t) ≤ length (now out)) ⌝ }
+    ensures { λ _. ⌜ (let lent = lentOf which (now (words .entry)) (now (bytes .entry)) in
+        now (out .exit) ≡ over (reencodedFile lent (now (t .entry))) (now (out .entry))) ⌝ }
 {
-    write_bytes::copy(out, t);
+    le_bytes::copy(out, t);
     write_groups(which, words, bytes, p, t, out);
 }

@@ -31,8 +31,8 @@ use Rattle.format.specs.declared.answers.Answer.{Answer}
 use Rattle.laws.proofs.Checks.{passed, first-fine, others-fine}
 use Rattle.laws.proofs.Reading.{number-lt}
 use Rattle.laws.proofs.Opened.{opened-long}
-use Rattle.lent.specs.Lent.{placed, wovenFrom}
-use Rattle.lent.proofs.Weave.{woven-from}
+use Rattle.lent_samples.specs.Lent.{placed, wovenFrom}
+use Rattle.lent_samples.proofs.Weave.{woven-from}
 use Rattle.group.specs.Readable.{Readable}
 use Rattle.opening.proofs.Groups.{channels-some, depth-8, depth-32, part-rises, part-within, part-is, part-checked}
 

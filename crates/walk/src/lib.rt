@@ -1,5 +1,5 @@
-// The walk over a file, group by group: NcwReader of the Rust. The struct holds the lent bytes and the next group's number.
-// No function over such a struct is covered by the borrow checker: the work is done by `advance`, on the bytes and the number.
+// The walk over a file, group by group: NcwReader of the Rust. The struct holds the lent bytes and the next group's
+// number. The borrow checker covers no function over such a struct, so `advance` does the work, on bytes and number.
 mod checking;
 mod one_group;
 
@@ -32,7 +32,8 @@ fn groups_passed(outcome: Outcome) -> u32
 
 // One group's samples, and where the walk then stands.
 fn advance(file: &[u8], next: u32, out: &mut [i32]) -> Advanced
-    ensures { λ r. ⌜ Advances (now (file .entry)) next (now (out .entry)) (r .answer) (now (out .exit)) (r .next) ⌝ }
+    ensures { λ r. ⌜ (let lent = now (out .entry) in
+        Advances (now (file .entry)) next lent (r .answer) (now (out .exit)) (r .next)) ⌝ }
 {
     let answer = decode_group(file, next, out);
     let outcome = answer.outcome;
@@ -42,20 +43,27 @@ fn advance(file: &[u8], next: u32, out: &mut [i32]) -> Advanced
     }
 }
 
+// A file, and the number of the group that the next step reads.
 pub struct Walk<'a> {
     pub file: &'a [u8],
     pub next: u32,
 }
 
 impl<'a> Walk<'a> {
+    // A walk that stands at the first group.
     pub fn new(file: &'a [u8]) -> Walk<'a>
         ensures { λ r. ⌜ (r .file ≡ file .entry) × (r .next ≡ 0) ⌝ }
     {
         Walk { file, next: 0 }
     }
 
+    // Puts the next group's samples at the front of `out`, and goes on to the group after it. Where the answer is a
+    // refusal, or no group is left, the walk stays where it is.
     pub fn step(&mut self, out: &mut [i32]) -> Answer
-        ensures { λ r. ⌜ Advances (now (now (self .entry) .file)) (now (self .entry) .next) (now (out .entry)) r (now (out .exit)) (now (self .exit) .next) × (now (self .exit) .file ≡ now (self .entry) .file) ⌝ }
+        ensures { λ r. ⌜ (let before = now (self .entry) in
+            let after = now (self .exit) in
+            Advances (now (before .file)) (before .next) (now (out .entry)) r (now (out .exit)) (after .next)
+            × (after .file ≡ before .file)) ⌝ }
     {
         let a = advance(self.file, self.next, out);
         self.next = a.next;
@@ -63,9 +71,10 @@ impl<'a> Walk<'a> {
     }
 }
 
-// The same step for callers without a walk of their own: it is made, asked, and said where it then stands.
+// The same step for callers without a walk of their own: the answer, and the number of the group after it.
 pub fn step_at(file: &[u8], next: u32, out: &mut [i32]) -> Advanced
-    ensures { λ r. ⌜ Advances (now (file .entry)) next (now (out .entry)) (r .answer) (now (out .exit)) (r .next) ⌝ }
+    ensures { λ r. ⌜ (let lent = now (out .entry) in
+        Advances (now (file .entry)) next lent (r .answer) (now (out .exit)) (r .next)) ⌝ }
 {
     let mut walk = Walk { file, next };
     let answer = walk.step(out);

@@ -1,14 +1,16 @@
-// One group's samples by the same checks.
+// One group's samples, by number.
 use crate::checking::check_walk;
 use format::Answer;
 use format::Checked;
 use format::Outcome;
-use lent::Container;
+use lent_samples::Container;
+use lent_samples::Part;
 ghost use mathlib.Core.Path.{_≡_};
 ghost use Rattle.format.specs.Promises.{Steps};
-ghost use Rattle.lent.specs.Lent.{lentOf, restOf};
+ghost use Rattle.lent_samples.specs.Lent.{lentOf, restOf};
 
-// Into either container.
+// Puts one group's samples at the front of what is lent in either container: how many, that no group of that number is
+// left, or the refusal. All else that is lent stays as it was.
 pub fn decode_group_lent(
     which: Container,
     file: &[u8],
@@ -16,10 +18,12 @@ pub fn decode_group_lent(
     words: &mut [i32],
     bytes: &mut [u8],
 ) -> Answer
-    ensures steps { λ r. ⌜ Steps (now (file .entry)) g (lentOf which (now (words .entry)) (now (bytes .entry))) r (lentOf which (now (words .exit)) (now (bytes .exit))) ⌝ }
-    ensures keeps { λ _. ⌜ restOf which (now (words .exit)) (now (bytes .exit)) ≡ restOf which (now (words .entry)) (now (bytes .entry)) ⌝ }
+    ensures steps { λ r. ⌜ (let lent = lentOf which (now (words .entry)) (now (bytes .entry)) in
+        Steps (now (file .entry)) g lent r (lentOf which (now (words .exit)) (now (bytes .exit)))) ⌝ }
+    ensures keeps { λ _. ⌜ (let rest = restOf which (now (words .entry)) (now (bytes .entry)) in
+        restOf which (now (words .exit)) (now (bytes .exit)) ≡ rest) ⌝ }
 {
-    if let Checked::No(r) = check_walk(file, g, lent::count(which, words, bytes)) {
+    if let Checked::No(r) = check_walk(file, g, lent_samples::count(which, words, bytes)) {
         return Answer::refused(r);
     }
     let h = header::read_fields(file);
@@ -32,10 +36,16 @@ pub fn decode_group_lent(
     let e = opening::offset_of(file, h, g + 1);
     let active = frames.active(g);
     let n = active.0 as usize;
-    group::write_group(which, words, bytes, &file[a..e], h, format, 0, 0, n);
+    let part = Part {
+        first: 0,
+        skip: 0,
+        count: n,
+    };
+    group::put_group(which, words, bytes, &file[a..e], h, format, part);
     Answer::of(Outcome::Read(active.samples(h.channels)))
 }
 
+// The same into numbers.
 pub fn decode_group(file: &[u8], g: u32, out: &mut [i32]) -> Answer
     ensures { λ r. ⌜ Steps (now (file .entry)) g (now (out .entry)) r (now (out .exit)) ⌝ }
 {

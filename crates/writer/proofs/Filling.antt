@@ -16,7 +16,7 @@ use Rattle.format.specs.declared.settings.PcmSpec.{PcmSpec}
 use Rattle.format.specs.declared.settings.StereoMode.{StereoMode}
 use Rattle.laws.proofs.Over.{sets-join, sets-swap, lent-sets}
 use Rattle.laws.proofs.Written.{entries-length}
-use Rattle.lent.specs.Lent.{framesFrom}
+use Rattle.lent_samples.specs.Lent.{framesFrom}
 use Rattle.writer.proofs.Groups.{Here, group-bytes, group-fits}
 
 -- ---- the table's first k entries, and the first g groups

@@ -15,13 +15,13 @@ use Rattle.format.specs.declared.units.Frames.{Frames}
 use Rattle.format.specs.declared.settings.PcmSpec.{PcmSpec}
 use Rattle.format.specs.declared.settings.StereoMode.{StereoMode}
 use Rattle.laws.proofs.Checks.{found-below}
-use Rattle.laws.proofs.Channels.{active-low}
+use Rattle.laws.proofs.Channels.{some-active, active-low}
 use Rattle.laws.proofs.Parts.{one-more, length-mono}
 use Rattle.laws.proofs.Chain.{any-more, any-found}
-use Rattle.lent.specs.Lent.{framesFrom}
+use Rattle.lent_samples.specs.Lent.{framesFrom}
 use Rattle.writer.specs.Accepted.{Accepted}
-use Rattle.new_group.specs.Writable.{Writable}
-use Rattle.group.proofs.Frames.{group-frames, group-inside, active-some}
+use Rattle.encode_group.specs.Writable.{Writable}
+use Rattle.group.proofs.Frames.{group-frames, group-inside}
 
 -- ---- parity
 abbrev pub differs : List ℤ → ℕ → Bool
@@ -32,7 +32,7 @@ module _ (s : List ℤ) (frames : Frames) (groups g n : ℕ) (long : length s �
   frames-inside = rw count (group-inside 2 frames s long g (omega arith))
 
   pub frames-some : 0 < n
-  frames-some = rw count (active-some frames g (omega arith))
+  frames-some = rw count (some-active frames g (omega arith))
 
   says : (r : Bool) → r ≡ parity (unwoven 2 (framesFrom 2 (512 * g) n s)) → differs s g ≡ not r
   says r e = ap not (ap (λ (x : List ℤ). parity (unwoven 2 x)) (sym (group-frames 2 frames s long g n count)) ∙ sym e)
@@ -87,7 +87,7 @@ module _ {p : PcmSpec} {mode : StereoMode} {s : List ℤ} {frames : Frames} {gro
 
   pub group-writable : Writable p mode (512 * g) n s
   group-writable = record {
-    some = rw (here .count) (active-some frames g inside);
+    some = rw (here .count) (some-active frames g inside);
     most = rw (here .count) (active-low frames g);
     inside = rw (here .count) (group-inside (p .channels) frames s samples-count g inside);
     channels = here .good .some;

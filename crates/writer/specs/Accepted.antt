@@ -21,4 +21,7 @@ pub record Accepted (p : PcmSpec) (mode : StereoMode) (s : List ℤ) : Type 0 wh
   pub count : length s / p .channels < 4294967296
   pub hold : every (holds (p .«bits_per_sample»)) s ≡ true
   pub stereo : (isMidSide mode && not (eqb (p .channels) 2)) ≡ false
-  pub even : isMidSide mode ≡ true → anyBelow (λ g. not (parity (unwoven (p .channels) (groupIn (p .channels) s g)))) (groupsOf (framesOf p s)) ≡ false
+  -- MidSide: no group has a frame whose samples differ in parity
+  pub even : isMidSide mode ≡ true
+      → anyBelow (λ g. not (parity (unwoven (p .channels) (groupIn (p .channels) s g)))) (groupsOf (framesOf p s))
+      ≡ false

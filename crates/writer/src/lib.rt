@@ -13,13 +13,13 @@ use format::Outcome;
 use format::PcmSpec;
 use format::Refusal;
 use format::StereoMode;
-use lent::Container;
-ghost use lib.ListN.{length};
+use lent_samples::Container;
 ghost use Rattle.format.specs.Promises.{Encodes};
-ghost use Rattle.lent.specs.Lent.{lentOf};
+ghost use Rattle.lent_samples.specs.Lent.{lentOf};
 
-// Encoding from either container. Of bytes the whole samples are taken: 1 to 3 bytes at the end are no sample, and are
-// not looked at. The host boundary refuses them by 39 before it calls this.
+// Encodes samples that are lent in either container: the length of the file that is then at the front of `out`, or the
+// refusal. Of bytes the whole samples are taken: 1 to 3 bytes at the end are no sample, and are not looked at. The host
+// boundary refuses them (39: the bytes are no whole samples) before it calls this.
 pub fn encode_lent(
     which: Container,
     words: &[i32],
@@ -28,12 +28,13 @@ pub fn encode_lent(
     mode: StereoMode,
     out: &mut [u8],
 ) -> Answer
-    ensures { λ r. ⌜ Encodes p mode (lentOf which (now (words .entry)) (now (bytes .entry))) (now (out .entry)) r (now (out .exit)) ⌝ }
+    ensures { λ r. ⌜ (let lent = lentOf which (now (words .entry)) (now (bytes .entry)) in
+        Encodes p mode lent (now (out .entry)) r (now (out .exit))) ⌝ }
 {
     if let Checked::No(r) = check_input(which, words, bytes, p, mode) {
         return Answer::refused(r);
     }
-    let frames = pcm::frames_of(which, words, bytes, p.channels);
+    let frames = validate::frames_of(which, words, bytes, p.channels);
     let size = data_size(which, words, bytes, p, mode, frames);
     if 0xFFFF_FFFF < size {
         return Answer::refused(Refusal::DataTooLarge);
@@ -46,6 +47,7 @@ pub fn encode_lent(
     Answer::of(Outcome::Wrote(end))
 }
 
+// The same of numbers.
 pub fn encode_pcm(samples: &[i32], spec: PcmSpec, mode: StereoMode, out: &mut [u8]) -> Answer
     ensures { λ r. ⌜ Encodes spec mode (now (samples .entry)) (now (out .entry)) r (now (out .exit)) ⌝ }
 {

@@ -3,7 +3,7 @@ use format::Depth;
 use format::Frames;
 use format::PcmSpec;
 use format::StereoMode;
-use lent::Container;
+use lent_samples::Container;
 ghost use mathlib.Core.Path.{_≡_};
 ghost use mathlib.Core.Bool.{not};
 ghost use Prim.Native.Nat.{_+_, _*_, _/_, _<_, _^_};
@@ -11,7 +11,7 @@ ghost use lib.ListN.{length};
 ghost use Rattle.format.specs.Lists.{anyBelow, joined};
 ghost use Rattle.format.specs.Header.{groupsOf};
 ghost use Rattle.format.specs.Encoding.{unwoven, parity, groupIn, encodedGroupAt};
-ghost use Rattle.lent.specs.Lent.{lentOf};
+ghost use Rattle.lent_samples.specs.Lent.{lentOf};
 ghost use Rattle.writer.specs.Accepted.{Accepted};
 
 // The data offset: the table follows byte 120, the data follow the table.
@@ -24,7 +24,8 @@ pub fn data_start(frames: Frames) -> u32
 // Whether in some group of two channels a frame has samples of different parity.
 pub fn parity_differs(which: Container, words: &[i32], bytes: &[u8], frames: Frames) -> bool
     requires { ⌜ length (lentOf which (now words) (now bytes)) ≡ 2 * frames .0 ⌝ }
-    ensures { λ r. ⌜ r ≡ anyBelow (λ g. not (parity (unwoven 2 (groupIn 2 (lentOf which (now (words .entry)) (now (bytes .entry))) g)))) (groupsOf frames) ⌝ }
+    ensures { λ r. ⌜ (let lent = lentOf which (now (words .entry)) (now (bytes .entry)) in
+        r ≡ anyBelow (λ g. not (parity (unwoven 2 (groupIn 2 lent g)))) (groupsOf frames)) ⌝ }
 {
     let groups = frames.groups();
     let mut g: u32 = 0;
@@ -53,15 +54,17 @@ pub fn data_size(
     mode: StereoMode,
     frames: Frames,
 ) -> u64
-    requires { ⌜ (Accepted p mode (lentOf which (now words) (now bytes))) × (frames .0 ≡ length (lentOf which (now words) (now bytes)) / p .channels) ⌝ }
-    ensures { λ r. ⌜ (r ≡ length (joined (encodedGroupAt p mode (lentOf which (now (words .entry)) (now (bytes .entry)))) (groupsOf frames))) × (r < 2 ^ 53) ⌝ }
+    requires { ⌜ (let lent = lentOf which (now words) (now bytes) in
+        (Accepted p mode lent) × (frames .0 ≡ length lent / p .channels)) ⌝ }
+    ensures { λ r. ⌜ (let lent = lentOf which (now (words .entry)) (now (bytes .entry)) in
+        (r ≡ length (joined (encodedGroupAt p mode lent) (groupsOf frames))) × (r < 2 ^ 53)) ⌝ }
 {
     let groups = frames.groups();
     let mut size: u64 = 0;
     let mut g: u32 = 0;
     while g < groups {
         let n = frames.active(g).0 as usize;
-        size += new_group::group_size(
+        size += encode_group::group_size(
             which,
             words,
             bytes,

@@ -1,4 +1,4 @@
--- `bits::last_value` meets its contract: value 511 is the code at bit 511 * bits.
+-- 511 codes of `bits` bits lie before value 511, so it is the code at bit 511 * bits.
 use borrow.Author.Needs.{needs}
 use Rattle.bits.proofs.Run.{last-value}
 use Rattle.bits.proofs.last_value.Statement.{statement}

@@ -1,3 +1,4 @@
+-- The loop's invariant: the first k values are stored, k is even, and the cursor stands at code k, bit bits * k.
 use Prim.Native.Nat.{_≤_, _*_, _-_, _%_}
 use native.Mathlib.Nat.{mul-zero}
 use native.Mathlib.Omega.{arith}
@@ -11,7 +12,11 @@ use Rattle.bits.proofs.packed_values.Tie as tie
 
 abbrev Inv-loop : tie.InvT-loop
 Inv-loop run bits out₀ cursor₀ k₀ out cursor k =
-    (k ≤ 512) × (k % 2 ≡ 0) × (length out ≡ 512) × (cursor .bit ≡ bits * k) × Done bits run out k
+    (k ≤ 512)
+    × (k % 2 ≡ 0)
+    × (length out ≡ 512)
+    × (cursor .bit ≡ bits * k)
+    × Done bits run out k
 
 abbrev μ-loop : tie.MeasureT-loop
 μ-loop run bits out₀ cursor₀ k₀ out cursor k = 512 - k

@@ -1,3 +1,4 @@
+-- 1 shifted left by fewer than 64 bits loses nothing, so it is 2 ^ k.
 use borrow.Author.Needs.{needs}
 use Rattle.bits.proofs.Steps.{one-shl}
 use Rattle.bits.proofs.pow2.Statement.{statement}

@@ -1,3 +1,4 @@
+-- Half of 2 ^ bits added, at `bits` bits, and taken off: a code below half stays, the others fall by 2 ^ bits.
 use native.Mathlib.Omega.{arith}
 use borrow.Author.Needs.{needs}
 use Rattle.bits.proofs.Flat.{half-most, up-fits, flat-64, flat-32, flat-value}

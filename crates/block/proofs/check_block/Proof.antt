@@ -1,4 +1,4 @@
--- `block::check_block` meets its contract: a law for each way out.
+-- The definition's checks in its order: a law for each way out, of what was read and passed before it.
 use borrow.Author.Needs.{needs}
 use Rattle.format.specs.Decoding.{checkBlock}
 use Rattle.laws.proofs.Chain.{chain, flags}

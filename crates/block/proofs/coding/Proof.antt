@@ -1,4 +1,4 @@
--- `block::coding` meets its contract: each range of the bits word is one case of the definition.
+-- Each range of the bits word is one case of the definition; -32 to -1 can be negated within 16 bits.
 use mathlib.Core.Path.{_≡_}
 use Prim.Native.Nat.{_+_, _^_, _<_}
 use native.Mathlib.Omega.{arith}

@@ -1,4 +1,4 @@
--- `block::float_differs` meets its contract, by cases on the format.
+-- By the format: the float bit differs from PCM where it is set, from float where it is not.
 use Rattle.format.specs.Decoding.{isFloat}
 use borrow.Author.Needs.{needs}
 use Rattle.block.proofs.float_differs.Statement.{statement}

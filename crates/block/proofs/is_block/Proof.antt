@@ -1,4 +1,4 @@
--- `block::is_block` meets its contract: four bytes are the mark where their number is its number.
+-- Four bytes are the mark exactly where the number that they are is the mark's.
 use Rattle.block.proofs.Signatures.{block-number}
 use borrow.Author.Needs.{needs}
 use Rattle.block.proofs.is_block.Statement.{statement}

@@ -1,4 +1,4 @@
--- `block::mid_side_alone` meets its contract: each test of the code is one of the definition.
+-- The definition's three tests in its order: a test that fails decides, whatever the ones after it say.
 use borrow.Author.Tests.{eq-eqb, ne-eqb}
 use Rattle.block.proofs.mid_side_alone.Statement.{statement}
 use Rattle.block.proofs.mid_side_alone.Tie as tie

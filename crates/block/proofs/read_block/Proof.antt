@@ -1,4 +1,5 @@
--- `block::read_block` meets its contract: a law for each coding.
+-- A whole block's run is 64 bytes a bit of its width, from 1 to 32: its differences are summed, its raw values
+-- taken as they are, and no whole block has a bits word beyond 32.
 use Rattle.block.proofs.Samples.{size-least, width-1, width-32, run-length, width-differences, width-raw, difference-samples, raw-samples, none-beyond}
 use borrow.Author.Needs.{needs}
 use Rattle.block.proofs.read_block.Statement.{statement}

@@ -1,4 +1,5 @@
--- `block::rebuild` meets its contract. The loop's invariant: what is done, and the samples that x and the differences left say, are the samples, and the cursor stands before difference k.
+-- The loop's invariant: the samples before k are stored, k is even, x is sample k, and the cursor stands at
+-- difference k.
 use mathlib.Core.Path.{_≡_, refl, ap, _∙_}
 use Prim.Native.Nat.{_≤_, _-_, _*_, _%_}
 use native.Mathlib.Nat.{mul-zero}
@@ -20,7 +21,11 @@ use Rattle.block.proofs.rebuild.Tie as tie
 
 abbrev Inv-loop : tie.InvT-loop
 Inv-loop base run bits out₀ cursor₀ x₀ k₀ out cursor x k =
-    (k ≤ 512) × (k % 2 ≡ 0) × (length out ≡ 512) × (cursor .bit ≡ bits * k) × Summed (toZ w32 base) (values bits run) out (toZ w32 x) k
+    (k ≤ 512)
+    × (k % 2 ≡ 0)
+    × (length out ≡ 512)
+    × (cursor .bit ≡ bits * k)
+    × Summed (toZ w32 base) (values bits run) out (toZ w32 x) k
 
 abbrev μ-loop : tie.MeasureT-loop
 μ-loop base run bits out₀ cursor₀ x₀ k₀ out cursor x k = 512 - k

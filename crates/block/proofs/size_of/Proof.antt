@@ -1,4 +1,4 @@
--- `block::size_of` meets its contract: what the three calls ensure, put together.
+-- A header of 16 bytes and 64 bytes a bit of the width, which is 32 at most: 2064 at most.
 use Rattle.block.proofs.Headers.{size-is, size-most}
 use borrow.Author.Needs.{needs}
 use Rattle.block.proofs.size_of.Statement.{statement}

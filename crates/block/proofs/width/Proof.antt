@@ -1,4 +1,4 @@
--- `block::width` meets its contract, by cases on the coding.
+-- By the coding: its own width, or 0 where it is beyond 32, as the definition has it.
 use Rattle.format.specs.Packed.{widthOf}
 use borrow.Author.Needs.{needs}
 use Rattle.block.proofs.width.Statement.{statement}

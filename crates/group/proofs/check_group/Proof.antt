@@ -1,3 +1,4 @@
+-- The loop's invariant: the channels before c have passed, and `at` is where channel c's block begins.
 use mathlib.Core.Path.{_≡_, sym, _∙_}
 use Prim.Native.Nat.{_-_, _≤_}
 use native.Mathlib.Omega.{arith}
@@ -10,7 +11,10 @@ use Rattle.group.proofs.check_group.Statement.{statement}
 use Rattle.group.proofs.check_group.Tie as tie
 
 abbrev Inv-loop : tie.InvT-loop
-Inv-loop h format bs channels at₀ c₀ at c = (channels ≡ h .channels) × (c ≤ channels) × Passed (h .depth) (checkBlock h format) bs c at
+Inv-loop h format bs channels at₀ c₀ at c =
+    (channels ≡ h .channels)
+    × (c ≤ channels)
+    × Passed (h .depth) (checkBlock h format) bs c at
 
 abbrev μ-loop : tie.MeasureT-loop
 μ-loop h format bs channels at₀ c₀ at c = channels - c

@@ -1,3 +1,4 @@
+-- The loop's invariant: no entry below k is bad.
 use Prim.Native.Nat.{_≤_, _-_}
 use mathlib.Core.Path.{_≡_, sym, _∙_}
 use mathlib.Core.Bool.{false}
@@ -9,7 +10,9 @@ use Rattle.header.proofs.any_bad.Statement.{statement}
 use Rattle.header.proofs.any_bad.Tie as tie
 
 abbrev Inv-loop : tie.InvT-loop
-Inv-loop s h g k₀ k = (k ≤ g) × (anyBelow (badEntry s h) k ≡ false)
+Inv-loop s h g k₀ k =
+    (k ≤ g)
+    × (anyBelow (badEntry s h) k ≡ false)
 
 abbrev μ-loop : tie.MeasureT-loop
 μ-loop s h g k₀ k = g - k

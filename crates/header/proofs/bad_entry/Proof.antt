@@ -1,3 +1,4 @@
+-- The definition's three tests in its order; the difference is taken only where the end is not before the start.
 use borrow.Author.Needs.{needs}
 use Rattle.format.specs.Opening.{badEntry}
 use Rattle.laws.proofs.Chain.{either}

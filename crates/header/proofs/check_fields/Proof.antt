@@ -1,3 +1,4 @@
+-- The definition's checks in its order: each way out is the first that refuses, or none does.
 use borrow.Author.Needs.{needs}
 use Rattle.format.specs.Opening.{checkFields}
 use Rattle.laws.proofs.Chain.{chain, flags}

@@ -1,3 +1,4 @@
+-- The definition's checks in its order; the distance is taken only where the data offset is not under the table's.
 use borrow.Author.Needs.{needs}
 use Rattle.format.specs.Opening.{checkOffsets}
 use Rattle.laws.proofs.Chain.{chain}

@@ -1,3 +1,4 @@
+-- The definition's checks in its order; without groups only the last entry is looked at.
 use borrow.Author.Needs.{needs}
 use Rattle.format.specs.Opening.{checkTable}
 use Rattle.laws.proofs.Chain.{chain, flags, any-zero}

@@ -1,3 +1,4 @@
+-- Entry k is the four bytes that begin 4 * k past the table's offset, which is where they are read.
 use borrow.Author.Needs.{needs}
 use Rattle.format.specs.Header.{entry}
 use Rattle.header.proofs.entry_at.Statement.{statement}

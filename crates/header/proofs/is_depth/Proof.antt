@@ -1,3 +1,4 @@
+-- A word names a depth exactly where `from_bits` answers Known.
 use borrow.Author.Needs.{needs}
 use Rattle.header.proofs.Depths.{depth-known, depth-unknown}
 use Rattle.header.proofs.is_depth.Statement.{statement}

@@ -1,3 +1,4 @@
+-- Eight bytes are a signature exactly where the number that they are is the signature's.
 use borrow.Author.Needs.{needs}
 use Rattle.header.proofs.Signatures.{signed-31, signed-30, unsigned}
 use Rattle.header.proofs.is_signature.Statement.{statement}

@@ -1,3 +1,4 @@
+-- Each field is read where the definition has it, and all seven lie in the first 32 bytes.
 use borrow.Author.Needs.{needs}
 use Rattle.format.specs.Header.{fieldsOf}
 use Rattle.header.proofs.read_fields.Statement.{statement}

@@ -1,3 +1,4 @@
+-- Each number by its own line of the definition.
 use Rattle.ncw.proofs.Encoding.{mode-auto, mode-direct, mode-both}
 use Rattle.ncw.proofs.mode_of.Statement.{statement}
 use Rattle.ncw.proofs.mode_of.Tie as tie

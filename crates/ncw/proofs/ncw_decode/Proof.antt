@@ -1,7 +1,7 @@
 -- Decoding's answer, as its number, and what the samples and the rest are in bytes.
 use mathlib.Core.Path.{ap}
 use borrow.Author.Needs.{needs}
-use Rattle.lent.specs.Lent.{Rest}
+use Rattle.lent_samples.specs.Lent.{Rest}
 use Rattle.ncw.proofs.Results.{decode-reads-few}
 use Rattle.ncw.proofs.Host.{told-decode, put-bytes}
 use Rattle.ncw.proofs.ncw_decode.Statement.{statement}

@@ -1,4 +1,4 @@
--- Each outcome has its number.
+-- Each outcome by its own line of the definition; a length fits, and a refusal's number is put above 2^63.
 use borrow.Author.Needs.{needs}
 use Rattle.ncw.proofs.Results.{opened-is, read-is, refused-is, opened-fits, read-fits}
 use Rattle.ncw.proofs.result.Statement.{statement}

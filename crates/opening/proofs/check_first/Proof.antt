@@ -1,3 +1,4 @@
+-- Without groups no block is read; with one, the file has room for a header at the data offset, and its mark decides.
 use borrow.Author.Needs.{needs}
 use Rattle.opening.proofs.FirstBlock.{start-within, mark-within, first-none, first-bad, first-good}
 use Rattle.opening.proofs.check_first.Statement.{statement}

@@ -1,3 +1,4 @@
+-- The definition's checks in its order: what has passed shows that the bytes that are read next are there.
 use borrow.Author.Needs.{needs}
 use Rattle.format.specs.Opening.{checkOpen}
 use Rattle.laws.proofs.Chain.{chain, flags, stages}

@@ -1,3 +1,4 @@
+-- A file that opens and has groups has room for the first block's header, whose float bit decides.
 use borrow.Author.Needs.{needs}
 use Rattle.opening.proofs.FirstBlock.{start-within, header-within, opened-room, format-none, format-float, format-pcm}
 use Rattle.opening.proofs.format_of.Statement.{statement}

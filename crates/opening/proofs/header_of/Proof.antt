@@ -1,3 +1,4 @@
+-- A file that opens has 120 bytes, so all fields are there, and the count and the format follow from them.
 use native.Mathlib.Omega.{arith}
 use borrow.Author.Needs.{needs}
 use Rattle.format.specs.Opening.{headerOf}

@@ -1,3 +1,4 @@
+-- Where a check refuses the answer is that refusal; where all pass, what `header_of` asks for holds.
 use mathlib.Core.Path.{_∙_}
 use borrow.Author.Needs.{needs}
 use Rattle.laws.proofs.Chain.{settled}

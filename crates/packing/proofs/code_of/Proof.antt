@@ -1,3 +1,4 @@
+-- The lowest `bits` bits of a value's 32 are its code at that width, where the width holds it.
 use borrow.Author.Needs.{needs}
 use Rattle.bits.proofs.Steps.{pow-positive}
 use Rattle.packing.proofs.Run.{code-word}

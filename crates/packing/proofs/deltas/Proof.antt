@@ -1,4 +1,4 @@
--- `packing::deltas` meets its contract. The loop's invariant: the differences before i are stored, and the last, which no turn stores, is 0.
+-- The loop's invariant: the differences before i are stored, and the last, which no turn stores, is 0.
 use mathlib.Core.Path.{refl}
 use Prim.Native.Nat.{_+_, _-_, _≤_}
 use native.Mathlib.Omega.{arith}
@@ -13,7 +13,9 @@ use Rattle.packing.proofs.deltas.Statement.{statement}
 use Rattle.packing.proofs.deltas.Tie as tie
 
 abbrev Inv-loop : tie.InvT-loop
-Inv-loop values out₀ i₀ out i = (i ≤ 511) × Stored values 511 out i
+Inv-loop values out₀ i₀ out i =
+    (i ≤ 511)
+    × Stored values 511 out i
 
 abbrev μ-loop : tie.MeasureT-loop
 μ-loop values out₀ i₀ out i = 511 - i

@@ -1,4 +1,4 @@
--- `packing::largest` meets its contract. The loop's invariant: m is the largest magnitude of the values before i.
+-- The loop's invariant: m is the largest magnitude of the values before i.
 use mathlib.Core.Path.{_≡_, ap, _∙_}
 use mathlib.Core.Logic.{⊎-elim}
 use Prim.Native.Nat.{_≤_, _-_}
@@ -14,7 +14,10 @@ use Rattle.packing.proofs.largest.Statement.{statement}
 use Rattle.packing.proofs.largest.Tie as tie
 
 abbrev Inv-loop : tie.InvT-loop
-Inv-loop values m₀ i₀ m i = (i ≤ 512) × (length values ≡ 512) × Largest values m i
+Inv-loop values m₀ i₀ m i =
+    (i ≤ 512)
+    × (length values ≡ 512)
+    × Largest values m i
 
 abbrev μ-loop : tie.MeasureT-loop
 μ-loop values m₀ i₀ m i = 512 - i

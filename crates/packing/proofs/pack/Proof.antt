@@ -1,3 +1,4 @@
+-- Where the check passes every value is held, so all are put; where it refuses, no byte was touched.
 use borrow.Author.Needs.{needs}
 use Rattle.packing.proofs.Fits.{unfit, unfilled, fit, all-hold, all-filled}
 use Rattle.packing.proofs.pack.Statement.{statement}
@@ -7,7 +8,7 @@ returns : tie.Need-returns
 returns c = (search unfit, search unfilled)
 
 put-all-requires : tie.Need-put-all-requires
-put-all-requires c κs = (search needs, search needs, search needs, search all-hold)
+put-all-requires c κs = (search needs, search all-hold)
 
 returns-2 : tie.Need-returns-2
 returns-2 c = (search fit, search all-filled)

@@ -1,4 +1,4 @@
--- `packing::put_all` meets its contract. The loop's invariant: the codes of the first i values are put.
+-- The loop's invariant: the codes of the first i values are put, and the run is still bytes, as many as before.
 use mathlib.Core.Path.{_≡_}
 use Prim.Native.Nat.{_*_, _≤_, _-_}
 use native.Mathlib.Omega.{arith}
@@ -10,13 +10,14 @@ use Rattle.packing.proofs.put_all.Statement.{statement}
 use Rattle.packing.proofs.put_all.Tie as tie
 
 abbrev Inv-loop : tie.InvT-loop
-Inv-loop bits run₀ values cursor₀ i₀ run cursor i = (i ≤ 512) × (length run ≡ 64 * bits) × Below 256 run × Done bits values run cursor i
+Inv-loop bits run₀ values cursor₀ i₀ run cursor i =
+    (i ≤ 512)
+    × (length run ≡ 64 * bits)
+    × Below 256 run
+    × Done bits values run cursor i
 
 abbrev μ-loop : tie.MeasureT-loop
 μ-loop bits run₀ values cursor₀ i₀ run cursor i = 512 - i
-
-long : (a : tie.Start Inv-loop μ-loop) → length (a .args .t1) ≡ 512
-long a = search needs
 
 loop-holds : tie.Need-loop-holds Inv-loop μ-loop
 loop-holds c = (omega arith, search needs, λ i. c .before .slice-known .given i .fits, search done-none)
@@ -28,10 +29,10 @@ put-requires : tie.Need-put-requires Inv-loop μ-loop
 put-requires c κs = (search needs, search room, search code-below)
 
 loop-again : tie.Need-loop-again Inv-loop μ-loop
-loop-again c = (omega arith, search needs, λ i. c .slice-known2 .given i .fits, search (done-more, code-is, long))
+loop-again c = (omega arith, search needs, λ i. c .slice-known2 .given i .fits, search (done-more, code-is))
 
 returns : tie.Need-returns Inv-loop μ-loop
-returns c = search (done-all, long)
+returns c = search done-all
 
 pub put-all-spec : {M : Type 1} → statement M
 put-all-spec =

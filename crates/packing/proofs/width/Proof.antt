@@ -1,4 +1,4 @@
--- `packing::width` meets its contract. The loop's invariant: no width from 2 below b holds m.
+-- The loop's invariant: no width from 2 below b holds m.
 use Prim.Native.Nat.{_-_, _≤_}
 use native.Mathlib.Omega.{arith}
 use borrow.Author.Needs.{needs}
@@ -7,7 +7,10 @@ use Rattle.packing.proofs.width.Statement.{statement}
 use Rattle.packing.proofs.width.Tie as tie
 
 abbrev Inv-loop : tie.InvT-loop
-Inv-loop m b₀ b = (2 ≤ b) × (b ≤ 32) × Sought m b
+Inv-loop m b₀ b =
+    (2 ≤ b)
+    × (b ≤ 32)
+    × Sought m b
 
 abbrev μ-loop : tie.MeasureT-loop
 μ-loop m b₀ b = 32 - b

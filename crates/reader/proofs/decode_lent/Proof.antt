@@ -1,3 +1,4 @@
+-- At each way out the checks have said so; where they pass there is room, and the groups are the decoded samples.
 use borrow.Author.Needs.{needs}
 use Rattle.format.specs.Decoding.{checkRoom, decodeOf, decodeInto}
 use Rattle.laws.proofs.Chain.{ways}
@@ -19,8 +20,8 @@ returns-2 c = ((search (ways, is-short), search (ways, is-short)), search needs)
 format-of-requires : tie.Need-format-of-requires
 format-of-requires c κs = (search decode-opens, search needs)
 
-write-groups-requires : tie.Need-write-groups-requires
-write-groups-requires c κs =
+put-groups-requires : tie.Need-put-groups-requires
+put-groups-requires c κs =
     let left = c .before .before .before in
     let count = left .before .before .before in
     (search ways, search needs, search needs, room-for-all _ _ _ _ _ (count .before .before .before .samples .ensures) (count .count .ensures) (left .if1 .left))
@@ -46,7 +47,7 @@ decode-lent-spec =
     (λ c. search needs)
     returns-2
     format-of-requires
-    write-groups-requires
+    put-groups-requires
     (λ c κs. search needs)
     (λ c. search needs)
     (λ c. search needs)

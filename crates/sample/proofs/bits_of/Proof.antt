@@ -1,4 +1,4 @@
--- `sample::bits_of` meets its contract.
+-- `!` turns all 32 bits over: of a negative x it is a number from 0 on, and turned over again has the bits of x.
 use mathlib.Core.Path.{sym}
 use native.Mathlib.Omega.{arith}
 use mir.Syntax.{w32}

@@ -1,4 +1,4 @@
--- `sample::of_bits` meets its contract.
+-- Below 2 ^ 31 the bits are the number; from there on `!n` is below it, and turned over again has the bits n.
 use mathlib.Core.Path.{sym, ap, _∙_}
 use borrow.Author.Needs.{needs}
 use mir.Syntax.{w32}

@@ -1,4 +1,4 @@
--- `sample::wrapping_add` meets its contract: what the four calls ensure, put together.
+-- The sum of both samples' bits, modulo 2 ^ 32, has the bits of the sum that wraps.
 use borrow.Author.Needs.{needs}
 use Rattle.sample.proofs.Words.{added}
 use Rattle.sample.proofs.wrapping_add.Statement.{statement}

@@ -1,4 +1,4 @@
--- `sample::wrapping_sub` meets its contract: what the three calls ensure, put together.
+-- 2 ^ 32 more, so that nothing falls below 0; modulo 2 ^ 32 it has the bits of the difference that wraps.
 use borrow.Author.Needs.{needs}
 use Rattle.sample.proofs.Words.{subtracted}
 use Rattle.sample.proofs.wrapping_sub.Statement.{statement}

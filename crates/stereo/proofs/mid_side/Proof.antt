@@ -1,14 +1,17 @@
--- `stereo::mid_side` meets its contract. The loop's invariant: the pairs before i are mid and side, those from i on left and right, of equal parity.
+-- The loop's invariant: the pairs before i are mid and side, those from i on left and right, of equal parity.
 use Prim.Native.Nat.{_≤_, _-_}
 use borrow.Author.Needs.{needs}
 use Rattle.format.specs.Encoding.{mid, side, midSide}
-use Rattle.block.proofs.Sweeps.{row-long, Split, split-none, split-turn, split-all}
+use Rattle.stereo.proofs.Pairs.{row-long, Split, split-none, split-turn, split-all}
 use Rattle.stereo.proofs.Rows.{YetEven, even-none, even-pair, even-turn}
 use Rattle.stereo.proofs.mid_side.Statement.{statement}
 use Rattle.stereo.proofs.mid_side.Tie as tie
 
 abbrev Inv-loop : tie.InvT-loop
-Inv-loop m₀ i₀ m i = (i ≤ 512) × Split mid side 512 m₀ m i × YetEven 512 m i
+Inv-loop m₀ i₀ m i =
+    (i ≤ 512)
+    × Split mid side 512 m₀ m i
+    × YetEven 512 m i
 
 abbrev μ-loop : tie.MeasureT-loop
 μ-loop m₀ i₀ m i = 512 - i

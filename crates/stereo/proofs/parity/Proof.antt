@@ -1,4 +1,4 @@
--- `stereo::parity` meets its contract. The loop's invariant: the pairs from i on decide, where all before are even.
+-- The loop's invariant: all have equal parity where those before i have, which `even` says, and those from i on.
 use mathlib.Core.Path.{_≡_, refl}
 use mathlib.Core.Bool.{_&&_}
 use mathlib.Core.List.{[]}
@@ -6,7 +6,7 @@ use Prim.Native.Nat.{_≤_, _-_}
 use borrow.Author.Needs.{needs}
 use lib.ListN.{length, getD}
 use Rattle.format.specs.Encoding.{parity}
-use Rattle.block.proofs.Sweeps.{row-long}
+use Rattle.stereo.proofs.Pairs.{row-long}
 use Rattle.stereo.proofs.Rows.{evenFrom, even-more, even-all}
 use Rattle.stereo.proofs.parity.Statement.{statement}
 use Rattle.stereo.proofs.parity.Tie as tie

@@ -1,4 +1,4 @@
--- `template::reencode_lent` meets its contract at each way out.
+-- At each way out the checks have said so; past them there is room, and the file is written whole.
 use borrow.Author.Needs.{needs}
 use Rattle.format.specs.Reencoding.{checkReencodeInto, reencodeOf, reencodeInto}
 use Rattle.laws.proofs.Chain.{ways}

@@ -1,3 +1,4 @@
+-- The answer is the group's; the walk goes on by one exactly where samples were read, and that number fits.
 use borrow.Author.Needs.{needs}
 use Rattle.walk.proofs.Ways.{goes-on, next-fits}
 use Rattle.walk.proofs.advance.Statement.{statement}

@@ -1,3 +1,4 @@
+-- At each way out the checks have said so; the length is known before anything is written, and there is room.
 use borrow.Author.Needs.{needs}
 use Rattle.format.specs.Encoding.{checkEncodeInto, encodeOf, encodeInto}
 use Rattle.laws.proofs.Chain.{ways}

@@ -1,3 +1,4 @@
+-- The window's lowest bits are the run's from the cursor on, so what they mean is the value there.
 use borrow.Author.Needs.{needs}
 use Rattle.bits.proofs.Steps.{first-is}
 use Rattle.bits.proofs.Cursor.next.Statement.{statement}

@@ -1,3 +1,4 @@
+-- Two codes of at most 28 bits lie in one window of 57; of wider ones the second is read where the first ends.
 use native.Mathlib.Omega.{arith}
 use borrow.Author.Needs.{needs}
 use Rattle.bits.proofs.Steps.{first-is, second-is, read-each}

@@ -1,3 +1,5 @@
+-- Eight bytes of the run are 64 of its bits. At most 7 of them lie before the cursor, or the bytes are the run's
+-- last ones, and all bits from the cursor on are shown.
 use borrow.Author.Needs.{needs}
 use Rattle.bits.proofs.Steps.{shows}
 use Rattle.bits.proofs.Cursor.window.Statement.{statement}

@@ -1,4 +1,4 @@
--- `block::BlockHeader::read` meets its contract: a code of 16 bits means a number that an i16 holds.
+-- Each field is read where the definition has it; a code of 16 bits means a number that an i16 holds.
 use native.Mathlib.Omega.{arith}
 use Rattle.block.proofs.Headers.{word-fits, header-is}
 use borrow.Author.Needs.{needs}

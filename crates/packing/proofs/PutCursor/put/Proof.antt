@@ -1,3 +1,5 @@
+-- The code stands above the bits that wait; where 32 or more then wait, the lowest 32 go to the bytes,
+-- and the number that is written so far is the same.
 use borrow.Author.Needs.{needs}
 use Rattle.packing.proofs.Steps.{sum-fits, put-short, put-long}
 use Rattle.packing.proofs.PutCursor.put.Statement.{statement}

@@ -1,3 +1,4 @@
+-- Opening's refusal comes first; then the groups', over the header and the format that opening found.
 use borrow.Author.Needs.{needs}
 use Rattle.format.specs.Decoding.{checkDecode}
 use Rattle.laws.proofs.Chain.{settled, stages}

@@ -1,3 +1,4 @@
+-- The loop's invariant: the groups before g have passed. A group's part lies within the file, since it opens.
 use mathlib.Core.Path.{_≡_}
 use Prim.Native.Nat.{_-_, _≤_}
 use native.Mathlib.Omega.{arith}
@@ -12,7 +13,10 @@ use Rattle.reader.proofs.checking.check_groups.Statement.{statement}
 use Rattle.reader.proofs.checking.check_groups.Tie as tie
 
 abbrev Inv-loop : tie.InvT-loop
-Inv-loop file h format groups g₀ g = (groups ≡ groupsOf (h .frames)) × (g ≤ groups) × (inOrder (λ g. checkGroup h format (groupBytes file h g)) g ≡ Fine)
+Inv-loop file h format groups g₀ g =
+    (groups ≡ groupsOf (h .frames))
+    × (g ≤ groups)
+    × (inOrder (λ g. checkGroup h format (groupBytes file h g)) g ≡ Fine)
 
 abbrev μ-loop : tie.MeasureT-loop
 μ-loop file h format groups g₀ g = groups - g

@@ -1,4 +1,4 @@
--- Both parts are within their room: the test says so.
+-- Both parts of n samples are within their rooms of 131,072: the test before says so.
 use native.Mathlib.Omega.{arith}
 use lib.ListN.{length-take}
 use borrow.Author.Needs.{needs}

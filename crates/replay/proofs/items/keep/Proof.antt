@@ -1,4 +1,4 @@
--- `replay::items::keep` meets its contract.
+-- `part` gives n or the room's length, the lesser; the test tells whether so much fits, and is copied, or nothing is.
 use borrow.Author.Needs.{needs}
 use Rattle.replay.proofs.Keeping.{kept-all, kept-none}
 use Rattle.replay.proofs.items.keep.Statement.{statement}

@@ -1,3 +1,4 @@
+-- The test `n < space.len()` tells which of the two is the lesser, and the lesser fits the space.
 use native.Mathlib.Omega.{arith}
 use lib.ListN.{length-take}
 use Rattle.replay.proofs.items.part.Statement.{statement}

@@ -1,4 +1,4 @@
--- `replay::questions::place_after` meets its contract.
+-- The match tells decoding, what is below encoding, up to re-encoding, and what is above: each decides the two tests.
 use Prim.Native.Nat.{_≤_}
 use mathlib.Core.Path.{_≡_, refl}
 use mathlib.Core.Bool.{false}

@@ -1,3 +1,4 @@
+-- The test `n < room.len()` tells which of the two is the lesser, and the lesser fits the room.
 use native.Mathlib.Omega.{arith}
 use lib.ListN.{length-take}
 use Rattle.replay.proofs.questions.words_of.Statement.{statement}

@@ -1,4 +1,4 @@
--- A bits word fits 32 bits.
+-- A bits word fits 32 bits, and as a number of 32 bits it can be taken off 2^32.
 use mir.Syntax.{w16}
 use mir.Val.{SFits}
 use mir.Facts.{sfits-widen, toZ-ofZ}

@@ -1,4 +1,4 @@
--- `template::any_falls` meets its contract. The loop's invariant: no entry before k falls.
+-- The loop's invariant: no entry before k falls.
 use Prim.Native.Nat.{_≤_, _-_}
 use mathlib.Core.Path.{_≡_}
 use mathlib.Core.Bool.{false}

@@ -1,4 +1,4 @@
--- `template::check_bounds` meets its contract: 41 stands for all that opening refuses there.
+-- 41 stands for all that opening refuses there.
 use borrow.Author.Needs.{needs}
 use Rattle.template.proofs.Stages.{bounds-fine, bounds-no}
 use Rattle.template.proofs.checking.check_bounds.Statement.{statement}

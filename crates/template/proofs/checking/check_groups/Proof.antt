@@ -1,4 +1,4 @@
--- `template::check_groups` meets its contract. The loop's invariant: the groups before g have passed.
+-- The loop's invariant: the groups before g have passed.
 use Prim.Native.Nat.{_-_, _≤_}
 use mathlib.Core.Path.{_≡_}
 use native.Mathlib.Omega.{arith}
@@ -8,7 +8,7 @@ use Rattle.format.specs.Refusals.{inOrder}
 use Rattle.format.specs.Encoding.{groupIn}
 use Rattle.format.specs.Reencoding.{checkReencodeGroup}
 use Rattle.format.specs.declared.refusals.Checked.the-variants.{Fine}
-use Rattle.lent.specs.Lent.{lentOf}
+use Rattle.lent_samples.specs.Lent.{lentOf}
 use Rattle.laws.proofs.Reading.{order-more, order-none, order-ends, order-whole}
 use Rattle.template.proofs.Groups.{some-channel, few-channels, some-bits, few-bits, entry-there, entry-next, part-rises, part-within, frames-some, frames-inside, part-checked}
 use Rattle.template.proofs.checking.check_groups.Statement.{statement}
@@ -32,17 +32,17 @@ entry-at-requires c κs = search entry-there
 entry-at-requires-2 : tie.Need-entry-at-requires-2 Inv-loop μ-loop
 entry-at-requires-2 c κs = search entry-next
 
-sub-check-new-group : tie.Need-sub-check-new-group Inv-loop μ-loop
-sub-check-new-group c = search part-rises
+sub-check-reencode-group : tie.Need-sub-check-reencode-group Inv-loop μ-loop
+sub-check-reencode-group c = search part-rises
 
-part-check-new-group-start : tie.Need-part-check-new-group-start Inv-loop μ-loop
-part-check-new-group-start c = search part-rises
+part-check-reencode-group-start : tie.Need-part-check-reencode-group-start Inv-loop μ-loop
+part-check-reencode-group-start c = search part-rises
 
-part-check-new-group-end : tie.Need-part-check-new-group-end Inv-loop μ-loop
-part-check-new-group-end c = search part-within
+part-check-reencode-group-end : tie.Need-part-check-reencode-group-end Inv-loop μ-loop
+part-check-reencode-group-end c = search part-within
 
-check-new-group-requires : tie.Need-check-new-group-requires Inv-loop μ-loop
-check-new-group-requires c κs = (search frames-some, search needs, search some-channel, search few-channels, search some-bits, search few-bits, search frames-inside)
+check-reencode-group-requires : tie.Need-check-reencode-group-requires Inv-loop μ-loop
+check-reencode-group-requires c κs = ((search frames-some, search needs, search frames-inside), search some-channel, search few-channels, search some-bits, search few-bits)
 
 returns : tie.Need-returns Inv-loop μ-loop
 returns c = search (order-ends, part-checked)
@@ -75,10 +75,10 @@ check-groups-spec =
     (λ c. search needs)
     (λ c. search needs)
     (λ c. search needs)
-    sub-check-new-group
-    part-check-new-group-start
-    part-check-new-group-end
-    check-new-group-requires
+    sub-check-reencode-group
+    part-check-reencode-group-start
+    part-check-reencode-group-end
+    check-reencode-group-requires
     (λ c. search needs)
     returns
     (λ c. search needs)

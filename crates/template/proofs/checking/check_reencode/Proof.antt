@@ -1,4 +1,4 @@
--- `template::check_reencode` meets its contract: each stage refuses, or the next is asked.
+-- Each stage refuses, or the next is asked.
 use borrow.Author.Needs.{needs}
 use Rattle.format.specs.Reencoding.{checkReencode}
 use Rattle.laws.proofs.Chain.{settled, stages}

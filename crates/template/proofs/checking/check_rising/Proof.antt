@@ -1,4 +1,4 @@
--- `template::check_rising` meets its contract.
+-- The three tests are the definition's, in its order, with the group count that was read.
 use borrow.Author.Needs.{needs}
 use Rattle.format.specs.Reencoding.{checkRising}
 use Rattle.laws.proofs.Chain.{chain, flags}

@@ -1,4 +1,4 @@
--- `template::check_same` meets its contract.
+-- The four tests are the definition's, in its order.
 use Rattle.format.specs.Reencoding.{checkSame}
 use Rattle.laws.proofs.Chain.{chain}
 use Rattle.template.proofs.checking.check_same.Statement.{statement}

@@ -1,4 +1,4 @@
--- `template::check_template` meets its contract: each way out answers as the checks in order.
+-- Each way out answers as the checks in order.
 use borrow.Author.Needs.{needs}
 use Rattle.format.specs.Reencoding.{checkTemplate}
 use Rattle.laws.proofs.Chain.{chain, flags, stages}

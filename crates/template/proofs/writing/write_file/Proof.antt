@@ -1,4 +1,4 @@
--- `template::write_file` meets its contract: the template, and over it all groups.
+-- The template, and over it all groups.
 use borrow.Author.Needs.{needs}
 use Rattle.template.proofs.Filling.{copy-long, file-put}
 use Rattle.template.proofs.writing.write_file.Statement.{statement}

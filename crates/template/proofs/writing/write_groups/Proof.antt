@@ -1,9 +1,9 @@
--- `template::write_groups` meets its contract. The loop's invariant: the first g groups lie in their places.
+-- The loop's invariant: the first g groups lie in their places.
 use Prim.Native.Nat.{_-_, _≤_}
 use mathlib.Core.Path.{_≡_, refl}
 use borrow.Author.Needs.{needs}
 use lib.ListN.{length}
-use Rattle.lent.specs.Lent.{lentOf}
+use Rattle.lent_samples.specs.Lent.{lentOf}
 use Rattle.laws.proofs.TemplateFiles.{writer-ok, samples-ok, template-ok}
 use Rattle.template.proofs.Groups.{some-channel, few-channels, some-bits, few-bits, entry-there, entry-next, part-rises, frames-some, frames-inside}
 use Rattle.template.proofs.Filling.{laid, none-laid, fields-there, ends-within, lent-from, old-fits, group-fine, turn-laid, loop-laid}
@@ -11,7 +11,10 @@ use Rattle.template.proofs.writing.write_groups.Statement.{statement}
 use Rattle.template.proofs.writing.write_groups.Tie as tie
 
 abbrev Inv-loop : tie.InvT-loop
-Inv-loop which words bytes p t out₀ h start frames groups g₀ out g = (g ≤ groups) × (length out ≡ length out₀) × (out ≡ laid (lentOf which words bytes) t out₀ g)
+Inv-loop which words bytes p t out₀ h start frames groups g₀ out g =
+    (g ≤ groups)
+    × (length out ≡ length out₀)
+    × (out ≡ laid (lentOf which words bytes) t out₀ g)
 
 abbrev μ-loop : tie.MeasureT-loop
 μ-loop which words bytes p t out₀ h start frames groups g₀ out g = groups - g
@@ -28,35 +31,33 @@ entry-at-requires c κs = search (entry-there, template-ok)
 entry-at-requires-2 : tie.Need-entry-at-requires-2 Inv-loop μ-loop
 entry-at-requires-2 c κs = search (entry-next, template-ok)
 
-sub-write-new-group : tie.Need-sub-write-new-group Inv-loop μ-loop
-sub-write-new-group c = search lent-from
+sub-reencode-group : tie.Need-sub-reencode-group Inv-loop μ-loop
+sub-reencode-group c = search lent-from
 
-part-write-new-group-start : tie.Need-part-write-new-group-start Inv-loop μ-loop
-part-write-new-group-start c = search lent-from
+part-reencode-group-start : tie.Need-part-reencode-group-start Inv-loop μ-loop
+part-reencode-group-start c = search lent-from
 
-sub-write-new-group-2 : tie.Need-sub-write-new-group-2 Inv-loop μ-loop
-sub-write-new-group-2 c = search (part-rises, template-ok)
+sub-reencode-group-2 : tie.Need-sub-reencode-group-2 Inv-loop μ-loop
+sub-reencode-group-2 c = search (part-rises, template-ok)
 
-part-write-new-group-start-2 : tie.Need-part-write-new-group-start-2 Inv-loop μ-loop
-part-write-new-group-start-2 c = search (part-rises, template-ok)
+part-reencode-group-start-2 : tie.Need-part-reencode-group-start-2 Inv-loop μ-loop
+part-reencode-group-start-2 c = search (part-rises, template-ok)
 
-part-write-new-group-end-2 : tie.Need-part-write-new-group-end-2 Inv-loop μ-loop
-part-write-new-group-end-2 c =
+part-reencode-group-end-2 : tie.Need-part-reencode-group-end-2 Inv-loop μ-loop
+part-reencode-group-end-2 c =
     let entries = c .before .before .before in
     let test = entries .before .before in
     let fields = test .before .before in
     ends-within _ _ _ (fields .before .before .before .before .before .before .before .pre .0) _ (fields .before .before .before .read-fields .ensures) _ _ (fields .groups .ensures .0) (test .loop-test .taken) _ _ (entries .before .entry-at .ensures) (entries .entry-at2 .ensures)
 
-write-new-group-requires : tie.Need-write-new-group-requires Inv-loop μ-loop
-write-new-group-requires c κs = (
+reencode-group-requires : tie.Need-reencode-group-requires Inv-loop μ-loop
+reencode-group-requires c κs = (
   (
-    search (frames-some, template-ok, samples-ok),
-    search needs,
+    (search (frames-some, template-ok, samples-ok), search needs, search (frames-inside, template-ok, samples-ok)),
     search (some-channel, writer-ok),
     search (few-channels, writer-ok),
     search (some-bits, writer-ok),
     search (few-bits, writer-ok),
-    search (frames-inside, template-ok, samples-ok),
   ),
   (search group-fine, search old-fits),
 )
@@ -86,15 +87,15 @@ write-groups-spec =
     (λ c. search needs)
     (λ c κs. search needs)
     (λ c. search needs)
-    sub-write-new-group
-    part-write-new-group-start
+    sub-reencode-group
+    part-reencode-group-start
     (λ c. search needs)
     (λ c. search needs)
     (λ c. search needs)
-    sub-write-new-group-2
-    part-write-new-group-start-2
-    part-write-new-group-end-2
-    write-new-group-requires
+    sub-reencode-group-2
+    part-reencode-group-start-2
+    part-reencode-group-end-2
+    reencode-group-requires
     (λ c. search needs)
     (λ c. search needs)
     loop-again

@@ -1,3 +1,4 @@
+-- The stages stand in the definition's order; a group that is there lies within a file that opens.
 use borrow.Author.Needs.{needs}
 use Rattle.format.specs.Walking.{checkWalk}
 use Rattle.laws.proofs.Chain.{settled, stages}

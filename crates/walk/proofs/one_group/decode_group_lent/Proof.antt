@@ -1,3 +1,4 @@
+-- The step's checks decide each way out; past them the group's samples are put at the front.
 use mathlib.Core.Path.{_∙_}
 use borrow.Author.Needs.{needs}
 use Rattle.walk.proofs.Ways.{step-refused, step-keeps, step-opens, step-fields, step-done, done-keeps, step-rises, step-within, step-readable, step-room, step-reads, puts-group}
@@ -22,22 +23,22 @@ offset-of-requires c κs = (search step-opens, search needs, search needs)
 offset-of-requires-2 : tie.Need-offset-of-requires-2
 offset-of-requires-2 c κs = (search step-opens, search needs, search needs)
 
-sub-write-group : tie.Need-sub-write-group
-sub-write-group c = search step-rises
+sub-put-group : tie.Need-sub-put-group
+sub-put-group c = search step-rises
 
-part-write-group-start : tie.Need-part-write-group-start
-part-write-group-start c = search step-rises
+part-put-group-start : tie.Need-part-put-group-start
+part-put-group-start c = search step-rises
 
-part-write-group-end : tie.Need-part-write-group-end
-part-write-group-end c =
+part-put-group-end : tie.Need-part-put-group-end
+part-put-group-end c =
     let o = c .before .before .before .before in
     let i = o .before .before .before in
     let r = i .before .before .before in
     let w = r .before .before .before in
     step-within _ _ _ _ (w .check-walk .ensures) (r .before .enum-told .given .1) _ (r .read-fields .ensures) _ (i .before .groups .ensures .0) (i .if1 .left) _ _ (o .before .offset-of .ensures) (o .offset-of2 .ensures)
 
-write-group-requires : tie.Need-write-group-requires
-write-group-requires c κs = (search step-readable, search needs, search step-room)
+put-group-requires : tie.Need-put-group-requires
+put-group-requires c κs = (search step-readable, (search needs, search step-room))
 
 returns-3 : tie.Need-returns-3
 returns-3 c =
@@ -53,7 +54,7 @@ returns-3 c =
     _ (a .active .ensures .0) _ (k .before .count .ensures) _ (c .before .samples .ensures) in
     let puts =
     puts-group _ _ _ _ (k .check-walk .ensures) (r .before .enum-told .given .1) _ (r .read-fields .ensures) _ (i .before .groups .ensures .0) (i .if1 .left)
-    _ (a .active .ensures .0) _ _ (o .before .offset-of .ensures) (o .offset-of2 .ensures) _ (f .format-of .ensures) _ _ (k .before .count .ensures) (w .write-group .ensures .0) in
+    _ (a .active .ensures .0) _ _ (o .before .offset-of .ensures) (o .offset-of2 .ensures) _ (f .format-of .ensures) _ _ (k .before .count .ensures) (w .put-group .ensures .0) in
     ((c .of2 .ensures ∙ reads, puts), search needs)
 
 pub decode-group-lent-spec : {M : Type 1} → statement M
@@ -80,10 +81,10 @@ decode-group-lent-spec =
     offset-of-requires-2
     (λ c κs. search needs)
     (λ c. search needs)
-    sub-write-group
-    part-write-group-start
-    part-write-group-end
-    write-group-requires
+    sub-put-group
+    part-put-group-start
+    part-put-group-end
+    put-group-requires
     (λ c κs. search needs)
     (λ c κs. search needs)
     (λ c. search needs)

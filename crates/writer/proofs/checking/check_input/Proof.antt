@@ -1,3 +1,4 @@
+-- The three stages in order; what 30 leaves has a channel, and what 31 and 33 leave is whole frames.
 use borrow.Author.Needs.{needs}
 use Rattle.laws.proofs.Chain.{settled, stages}
 use Rattle.laws.proofs.SampleChecks.{frames-ok, count-ok}

@@ -1,3 +1,4 @@
+-- Only MidSide asks: first for two channels, then for parity.
 use borrow.Author.Needs.{needs}
 use Rattle.writer.proofs.Input.{stereo-auto, stereo-direct, not-stereo, count-two, exact-two, whole-two, parity-bad, parity-good}
 use Rattle.writer.proofs.checking.check_stereo.Statement.{statement}

@@ -1,3 +1,4 @@
+-- The loop's invariant: `size` is the length of the groups before g, so it stays far below 2^53.
 use Prim.Native.Nat.{_-_, _*_, _≤_}
 use mathlib.Core.Path.{_≡_}
 use native.Mathlib.Omega.{arith}
@@ -5,13 +6,16 @@ use borrow.Author.Needs.{needs}
 use lib.ListN.{length}
 use Rattle.format.specs.Lists.{joined}
 use Rattle.format.specs.Encoding.{encodedGroupAt}
-use Rattle.lent.specs.Lent.{lentOf}
+use Rattle.lent_samples.specs.Lent.{lentOf}
 use Rattle.writer.proofs.Groups.{here-is, group-writable, sized-more, sized-none, sized-all}
 use Rattle.writer.proofs.sizing.data_size.Statement.{statement}
 use Rattle.writer.proofs.sizing.data_size.Tie as tie
 
 abbrev Inv-loop : tie.InvT-loop
-Inv-loop which words bytes p mode frames groups size₀ g₀ size g = (g ≤ groups) × (size ≡ length (joined (encodedGroupAt p mode (lentOf which words bytes)) g)) × (size ≤ 135266304 * g)
+Inv-loop which words bytes p mode frames groups size₀ g₀ size g =
+    (g ≤ groups)
+    × (size ≡ length (joined (encodedGroupAt p mode (lentOf which words bytes)) g))
+    × (size ≤ 135266304 * g)
 
 abbrev μ-loop : tie.MeasureT-loop
 μ-loop which words bytes p mode frames groups size₀ g₀ size g = groups - g

@@ -1,16 +1,19 @@
+-- The loop's invariant: no group before g has a frame that differs.
 use Prim.Native.Nat.{_-_, _≤_}
 use mathlib.Core.Path.{_≡_}
 use mathlib.Core.Bool.{false}
 use borrow.Author.Needs.{needs}
 use Rattle.format.specs.Lists.{anyBelow}
-use Rattle.lent.specs.Lent.{lentOf}
+use Rattle.lent_samples.specs.Lent.{lentOf}
 use Rattle.laws.proofs.Chain.{any-none}
 use Rattle.writer.proofs.Groups.{differs, frames-some, frames-inside, differs-here, differs-not-yet, differs-nowhere}
 use Rattle.writer.proofs.sizing.parity_differs.Statement.{statement}
 use Rattle.writer.proofs.sizing.parity_differs.Tie as tie
 
 abbrev Inv-loop : tie.InvT-loop
-Inv-loop which words bytes frames groups g₀ g = (g ≤ groups) × (anyBelow (differs (lentOf which words bytes)) g ≡ false)
+Inv-loop which words bytes frames groups g₀ g =
+    (g ≤ groups)
+    × (anyBelow (differs (lentOf which words bytes)) g ≡ false)
 
 abbrev μ-loop : tie.MeasureT-loop
 μ-loop which words bytes frames groups g₀ g = groups - g

@@ -1,3 +1,4 @@
+-- The loop's invariant: the bytes from 32 up to i are 0, and nothing else has changed.
 use Prim.Native.Nat.{_-_, _≤_}
 use mathlib.Core.Path.{_≡_, refl}
 use borrow.Author.Needs.{needs}
@@ -8,7 +9,11 @@ use Rattle.writer.proofs.writing.put_zeros.Statement.{statement}
 use Rattle.writer.proofs.writing.put_zeros.Tie as tie
 
 abbrev Inv-loop : tie.InvT-loop
-Inv-loop out₀ i₀ out i = (32 ≤ i) × (i ≤ 120) × (length out ≡ length out₀) × (out ≡ sets out₀ 32 (replicate (i - 32) 0))
+Inv-loop out₀ i₀ out i =
+    (32 ≤ i)
+    × (i ≤ 120)
+    × (length out ≡ length out₀)
+    × (out ≡ sets out₀ 32 (replicate (i - 32) 0))
 
 abbrev μ-loop : tie.MeasureT-loop
 μ-loop out₀ i₀ out i = 120 - i

@@ -1,3 +1,4 @@
+-- Header, table and groups, each behind the one before, are the file.
 use borrow.Author.Needs.{needs}
 use Rattle.writer.proofs.Heading.{header-fits, groups-fit, file-put}
 use Rattle.writer.proofs.writing.write_file.Statement.{statement}

@@ -1,3 +1,4 @@
+-- The loop's invariant: the first g entries and groups lie in their places, and `at` is where group g begins.
 use Prim.Native.Nat.{_-_, _≤_}
 use mathlib.Core.Path.{_≡_, refl, _∙_}
 use native.Mathlib.Omega.{arith}
@@ -6,14 +7,19 @@ use lib.ListN.{length}
 use Rattle.format.specs.Lists.{joined}
 use Rattle.format.specs.Header.{groupsOf}
 use Rattle.format.specs.Encoding.{encodedGroupAt}
-use Rattle.lent.specs.Lent.{lentOf}
+use Rattle.lent_samples.specs.Lent.{lentOf}
 use Rattle.writer.proofs.Groups.{here-is, group-writable, sized-none, sized-more, at-most}
 use Rattle.writer.proofs.Filling.{laid, none-laid, group-room, turn-laid, loop-laid}
 use Rattle.writer.proofs.writing.write_groups.Statement.{statement}
 use Rattle.writer.proofs.writing.write_groups.Tie as tie
 
 abbrev Inv-loop : tie.InvT-loop
-Inv-loop which words bytes p mode frames out₀ groups start at₀ g₀ out at g = (g ≤ groups) × (at ≡ length (joined (encodedGroupAt p mode (lentOf which words bytes)) g)) × (at ≤ length (joined (encodedGroupAt p mode (lentOf which words bytes)) (groupsOf frames))) × (length out ≡ length out₀) × (out ≡ laid (encodedGroupAt p mode (lentOf which words bytes)) out₀ start g g)
+Inv-loop which words bytes p mode frames out₀ groups start at₀ g₀ out at g =
+    (g ≤ groups)
+    × (at ≡ length (joined (encodedGroupAt p mode (lentOf which words bytes)) g))
+    × (at ≤ length (joined (encodedGroupAt p mode (lentOf which words bytes)) (groupsOf frames)))
+    × (length out ≡ length out₀)
+    × (out ≡ laid (encodedGroupAt p mode (lentOf which words bytes)) out₀ start g g)
 
 abbrev μ-loop : tie.MeasureT-loop
 μ-loop which words bytes p mode frames out₀ groups start at₀ g₀ out at g = groups - g
@@ -21,8 +27,8 @@ abbrev μ-loop : tie.MeasureT-loop
 loop-holds : tie.Need-loop-holds Inv-loop μ-loop
 loop-holds c = (search needs, sized-none _, search needs, refl, none-laid _ _ _)
 
-write-group-requires : tie.Need-write-group-requires Inv-loop μ-loop
-write-group-requires c κs =
+encode-group-requires : tie.Need-encode-group-requires Inv-loop μ-loop
+encode-group-requires c κs =
     let u = c .before .before .before .before .before in
     let t = u .before .before in
     let i = t .before .loop .inv in
@@ -39,7 +45,7 @@ add-at c =
     let e = t .before .before in
     let f = e .before .before .before .before in
     let here = here-is (f .pre .0 .0) (f .pre .0 .1) (e .before .groups .ensures .0) (t .loop-test .taken) (a .active .ensures .0) in
-    omega (arith, at-most here (t .before .loop .inv .1) (w .write-group .ensures .0))
+    omega (arith, at-most here (t .before .loop .inv .1) (w .encode-group .ensures .0))
 
 loop-again : tie.Need-loop-again Inv-loop μ-loop
 loop-again c =
@@ -52,10 +58,10 @@ loop-again c =
     let f = e .before .before .before .before in
     let here = here-is (f .pre .0 .0) (f .pre .0 .1) (e .before .groups .ensures .0) (t .loop-test .taken) (a .active .ensures .0) in (
       search needs,
-      sized-more here (i .1) (w .write-group .ensures .0),
-      at-most here (i .1) (w .write-group .ensures .0),
+      sized-more here (i .1) (w .encode-group .ensures .0),
+      at-most here (i .1) (w .encode-group .ensures .0),
       omega arith,
-      turn-laid here (i .1) (e .data-start .ensures) (f .args .out .now) (f .pre .1 .1) (t .before .loop .out) _ _ (i .4) (u .put-u32-le .ensures) (w .write-group .ensures .1),
+      turn-laid here (i .1) (e .data-start .ensures) (f .args .out .now) (f .pre .1 .1) (t .before .loop .out) _ _ (i .4) (u .put-u32-le .ensures) (w .encode-group .ensures .1),
     )
 
 returns : tie.Need-returns Inv-loop μ-loop
@@ -84,7 +90,7 @@ write-groups-spec =
     (λ c. search needs)
     (λ c. search needs)
     (λ c. search needs)
-    write-group-requires
+    encode-group-requires
     add-at
     (λ c. search needs)
     (λ c. search needs)

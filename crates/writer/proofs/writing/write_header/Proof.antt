@@ -1,3 +1,4 @@
+-- The three parts lie one behind another and are the header's 120 bytes.
 use borrow.Author.Needs.{needs}
 use Rattle.writer.proofs.Heading.{header-put}
 use Rattle.writer.proofs.writing.write_header.Statement.{statement}

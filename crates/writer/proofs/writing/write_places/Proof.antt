@@ -1,3 +1,4 @@
+-- The four numbers are put one behind another from byte 16 on.
 use borrow.Author.Needs.{needs}
 use Rattle.writer.proofs.Heading.{places-put}
 use Rattle.writer.proofs.writing.write_places.Statement.{statement}

@@ -1,3 +1,4 @@
+-- The numbers are put one behind another from byte 0 on.
 use borrow.Author.Needs.{needs}
 use Rattle.writer.proofs.Heading.{settings-put}
 use Rattle.writer.proofs.writing.write_settings.Statement.{statement}

@@ -1,10 +1,10 @@
+-- By the refusal: the code's table and the definition's are the same, row by row, by computation.
 use mathlib.Core.Path.{sym, ap}
 use borrow.Author.Needs.{needs}
 use Rattle.format.specs.Refusals.{number}
 use Rattle.format.proofs.refusals.Refusal.number.Statement.{statement}
 use Rattle.format.proofs.refusals.Refusal.number.Tie as tie
 
--- `Refusal::number`: each case by computation.
 pub number-spec : {M : Type 1} → statement M
 number-spec =
     tie.close

@@ -1,3 +1,4 @@
+-- The four words that are matched are the definition's four, and a word that is none of them names no depth.
 use mathlib.Core.Path.{sym, ap}
 use Rattle.format.specs.Units.{depthWord}
 use Rattle.format.proofs.UnitLaws.{depth-unknown}

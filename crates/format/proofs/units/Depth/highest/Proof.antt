@@ -1,10 +1,10 @@
+-- By the depth: 2 ^ (bits - 1) - 1 is computed for each of the four.
 use mathlib.Core.Path.{sym, ap}
 use borrow.Author.Needs.{needs}
 use Rattle.format.specs.Units.{highest}
 use Rattle.format.proofs.units.Depth.highest.Statement.{statement}
 use Rattle.format.proofs.units.Depth.highest.Tie as tie
 
--- `Depth::highest`: each case by computation.
 pub highest-spec : {M : Type 1} → statement M
 highest-spec =
     tie.close

@@ -1,10 +1,10 @@
+-- By the depth: - 2 ^ (bits - 1) is computed for each of the four.
 use mathlib.Core.Path.{sym, ap}
 use borrow.Author.Needs.{needs}
 use Rattle.format.specs.Units.{lowest}
 use Rattle.format.proofs.units.Depth.lowest.Statement.{statement}
 use Rattle.format.proofs.units.Depth.lowest.Tie as tie
 
--- `Depth::lowest`: each case by computation.
 pub lowest-spec : {M : Type 1} → statement M
 lowest-spec =
     tie.close

@@ -1,3 +1,4 @@
+-- What `from_bits` answers decides: the depth that it names, or the widest where it names none.
 use borrow.Author.Needs.{needs}
 use Rattle.format.proofs.UnitLaws.{depth-named, depth-unnamed}
 use Rattle.format.proofs.units.Depth.of.Statement.{statement}

@@ -1,3 +1,4 @@
+-- The difference is taken only where frames are left, and `min` is the two tests on it.
 use borrow.Author.Needs.{needs}
 use Rattle.format.specs.Units.{active}
 use Rattle.format.proofs.units.Frames.active.Statement.{statement}

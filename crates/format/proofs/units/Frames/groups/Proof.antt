@@ -1,3 +1,4 @@
+-- Rounding up adds 1 exactly where the division leaves a rest, which is what adding 511 first does.
 use borrow.Author.Needs.{needs}
 use Rattle.format.specs.Header.{groupsOf}
 use Rattle.format.proofs.units.Frames.groups.Statement.{statement}

@@ -1,3 +1,4 @@
+-- A number of 32 bits times one of 16 bits is below 2 ^ 64, so nothing overflows.
 use borrow.Author.Needs.{needs}
 use native.Mathlib.Omega.{arith}
 use Rattle.format.proofs.UnitLaws.{product-below}

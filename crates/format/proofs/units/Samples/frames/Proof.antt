@@ -1,3 +1,5 @@
+-- The definition's tests in its order; the division comes after the channels are seen not to be 0, the cast after the
+-- frames are seen to fit 32 bits.
 use borrow.Author.Needs.{needs}
 use Rattle.format.proofs.UnitLaws.{no-channels, no-frame, too-many, whole-frames, framing}
 use Rattle.format.proofs.units.Samples.frames.Statement.{statement}

@@ -1,3 +1,0 @@
--- samples taken into a room; an entry that is asked with them
-pub mod Taking
-pub mod Asking

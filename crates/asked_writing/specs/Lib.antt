@@ -1,2 +1,0 @@
--- what encoding and re-encoding answer and leave
-pub mod Written

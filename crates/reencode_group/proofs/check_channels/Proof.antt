@@ -1,0 +1,71 @@
+-- The loop's invariant: the channels before c have passed, and the next block begins at `at`.
+use mathlib.Core.Path.{_≡_, sym, _∙_}
+use Prim.Native.Nat.{_-_, _≤_}
+use native.Mathlib.Omega.{arith}
+use borrow.Author.Needs.{needs}
+use Rattle.format.specs.declared.refusals.Refusal.the-variants.{TemplateBytesLeft}
+use Rattle.laws.proofs.Templates.{template-ok}
+use Rattle.group.proofs.Checking.{Passed, passed-none, stops, more, bytes-left, all-fine}
+use Rattle.reencode_group.proofs.Checking.{firstOf}
+use Rattle.reencode_group.proofs.check_channels.Statement.{statement}
+use Rattle.reencode_group.proofs.check_channels.Tie as tie
+
+abbrev Inv-loop : tie.InvT-loop
+Inv-loop bs depth channels n a count at₀ c₀ at c =
+    (count ≡ channels)
+    × (c ≤ channels)
+    × Passed depth (firstOf depth n a) bs c at
+
+abbrev μ-loop : tie.MeasureT-loop
+μ-loop bs depth channels n a count at₀ c₀ at c = channels - c
+
+loop-holds : tie.Need-loop-holds Inv-loop μ-loop
+loop-holds c = (search needs, search needs, passed-none _ _ _)
+
+returns : tie.Need-returns Inv-loop μ-loop
+returns c =
+    let d = c .before .before .before in
+    stops (d .before .before .before .before .loop .inv .2) (d .check-reencode-block .ensures) TemplateBytesLeft (search needs) (omega arith)
+
+size-of-requires : tie.Need-size-of-requires Inv-loop μ-loop
+size-of-requires c κs = (template-ok _ _ _ (sym (c .before .before .before .check-reencode-block .ensures) ∙ c .before .enum-told .given .1) .head, search needs)
+
+loop-again : tie.Need-loop-again Inv-loop μ-loop
+loop-again c =
+    let d = c .before .before .before .before in
+    let e = c .before .before .enum-told .given .1 in
+    let s = d .check-reencode-block .ensures in
+    (search needs, search needs, more (d .before .before .before .before .loop .inv .2) s e (template-ok _ _ _ (sym s ∙ e) .sized) (c .size-of .ensures .0))
+
+returns-2 : tie.Need-returns-2 Inv-loop μ-loop
+returns-2 c = let b = c .before .before in bytes-left (b .loop .inv .2) (omega arith) TemplateBytesLeft (c .if1 .taken)
+
+returns-3 : tie.Need-returns-3 Inv-loop μ-loop
+returns-3 c = let b = c .before .before in all-fine (b .loop .inv .2) (omega arith) TemplateBytesLeft (omega arith)
+
+pub check-channels-spec : {M : Type 1} → statement M
+check-channels-spec =
+    tie.close
+    (tie.spec
+    Inv-loop
+    μ-loop
+    loop-holds
+    (λ c. search needs)
+    (λ c. search needs)
+    (λ c. search needs)
+    (λ c. search needs)
+    (λ c. search needs)
+    (λ c κs. search needs)
+    (λ c. search needs)
+    returns
+    (λ c. search needs)
+    (λ c. search needs)
+    (λ c. search needs)
+    (λ c. search needs)
+    size-of-requires
+    (λ c. search needs)
+    (λ c. search needs)
+    (λ c. search needs)
+    loop-again
+    returns-2
+    returns-3)

@@ -1,0 +1,3 @@
+-- half of a sample; the report of the main job
+pub mod Halving
+pub mod Reports

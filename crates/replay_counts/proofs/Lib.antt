@@ -1,0 +1,2 @@
+-- what the two tallies leave
+pub mod Laws

@@ -1,0 +1,2 @@
+-- what is counted of the answers
+pub mod Counts

@@ -1,0 +1,265 @@
+// Opening, decoding and a step of a walk, each asked of the proved entry and, where it has one, of the host boundary:
+// whether all answer as recorded.
+use format::Answer;
+use format::Frames;
+use format::Header;
+use format::Outcome;
+use format::SampleFormat;
+use lent_samples::Container;
+use replay_list::ACCEPTED;
+use replay_list::Recorded;
+use replay_list::Said;
+use replay_list::Verdict;
+use replay_list::fill;
+use replay_list::fill_bytes;
+use replay_list::is_answered;
+use replay_list::is_recorded;
+use replay_list::judged;
+use replay_list::of_answer;
+use replay_list::of_result;
+use replay_list::read_recorded;
+use replay_list::spoil;
+ghost use mathlib.Core.Path.{_≡_};
+ghost use lib.ListN.{length};
+ghost use Rattle.format.specs.Decoding.{decodeOf, decodeInto};
+ghost use Rattle.format.specs.Boundary.{hostDecode, hostDecodeInto};
+ghost use Rattle.replay_list.specs.Said.{saidBy, saidByHost, verdictOf};
+ghost use Rattle.replay_reading.specs.Opened.{numberOf, isHeader, isOpened, isLength, isRefused};
+ghost use Rattle.replay_reading.specs.Opened.{bothOpen, openingNumber, openingVerdict};
+ghost use Rattle.replay_reading.specs.Decoded.{decodedWords, entryDecodes, decodedBytes, hostDecodes};
+ghost use Rattle.replay_reading.specs.Decoded.{bothDecode};
+ghost use Rattle.replay_reading.specs.Stepped.{steppedWords, stepsTo};
+
+// What was recorded of a file that opens: its header's numbers.
+struct Opened {
+    channels: u16,
+    depth: u16,
+    rate: u32,
+    frames: u32,
+    table: u32,
+    start: u32,
+    size: u32,
+    groups: u32,
+    format: u32,
+}
+
+// What was recorded of opening a file: the numbers of its header, or the number of the refusal.
+enum RecordedOpening {
+    Opens(Opened),
+    Refuses(u32),
+}
+
+fn read_opened(list: i32) -> Opened {
+    Opened {
+        channels: replay_list::read_u16(list),
+        depth: replay_list::read_u16(list),
+        rate: replay_list::read_u32(list),
+        frames: replay_list::read_u32(list),
+        table: replay_list::read_u32(list),
+        start: replay_list::read_u32(list),
+        size: replay_list::read_u32(list),
+        groups: replay_list::read_u32(list),
+        format: replay_list::read_u8(list),
+    }
+}
+
+fn read_opening(list: i32) -> RecordedOpening {
+    let number = replay_list::read_u8(list);
+    if number == ACCEPTED {
+        RecordedOpening::Opens(read_opened(list))
+    } else {
+        RecordedOpening::Refuses(number)
+    }
+}
+
+// The number of a sample format in the list.
+fn number_of(format: SampleFormat) -> u32
+    ensures { λ r. ⌜ r ≡ numberOf format ⌝ }
+{
+    match format {
+        SampleFormat::Pcm => 0,
+        SampleFormat::Float => 1,
+    }
+}
+
+// Whether every number of the header is the recorded one.
+fn is_header(h: Header, want: Opened) -> bool
+    ensures { λ r. ⌜ r ≡ isHeader h want ⌝ }
+{
+    let depth = h.depth;
+    let format = h.format;
+    let mut same = h.channels == want.channels;
+    same = same & (h.rate == want.rate);
+    same = same & (h.frames.0 == want.frames);
+    same = same & (h.table == want.table);
+    same = same & (h.start == want.start);
+    same = same & (h.size == want.size);
+    same = same & (h.groups == want.groups);
+    same = same & (depth.bits() == want.depth);
+    same & (number_of(format) == want.format)
+}
+
+// Whether the file opens, with that header.
+fn is_opened(answer: Answer, want: Opened) -> bool
+    ensures { λ r. ⌜ r ≡ isOpened (answer .outcome) want ⌝ }
+{
+    let outcome = answer.outcome;
+    if let Outcome::Opened(h) = outcome {
+        is_header(h, want)
+    } else {
+        false
+    }
+}
+
+// Whether the host boundary's number is what decoding would write: 4 bytes for each sample.
+fn is_length(result: u64, want: Opened) -> bool
+    ensures { λ r. ⌜ r ≡ isLength result want ⌝ }
+{
+    let samples = Frames(want.frames).samples(want.channels);
+    if result % 4 != 0 {
+        return false;
+    }
+    result / 4 == samples.0
+}
+
+// The host boundary's number is 2^63 more than the refusal's.
+fn is_refused(said: u32, result: u64, number: u32) -> bool
+    ensures { λ r. ⌜ r ≡ isRefused said result number ⌝ }
+{
+    if said != number {
+        return false;
+    }
+    result == 0x8000_0000_0000_0000 + number as u64
+}
+
+// Whether the entry and the host boundary both answer as recorded.
+fn both_open(file: &[u8], want: RecordedOpening) -> bool
+    ensures { λ r. ⌜ r ≡ bothOpen (now (file .entry)) want ⌝ }
+{
+    let answer = opening::open(file);
+    let result = ncw::ncw_open(file);
+    match want {
+        RecordedOpening::Opens(header) => is_opened(answer, header) & is_length(result, header),
+        RecordedOpening::Refuses(number) => is_refused(of_answer(answer).number, result, number),
+    }
+}
+
+fn opening_number(want: RecordedOpening) -> u32
+    ensures { λ r. ⌜ r ≡ openingNumber want ⌝ }
+{
+    match want {
+        RecordedOpening::Opens(_) => ACCEPTED,
+        RecordedOpening::Refuses(number) => number,
+    }
+}
+
+fn judge_open(file: &[u8], want: RecordedOpening) -> Verdict
+    ensures { λ r. ⌜ r ≡ openingVerdict (now (file .entry)) want ⌝ }
+{
+    Verdict {
+        is_same: both_open(file, want),
+        number: opening_number(want),
+        length: 0,
+    }
+}
+
+// Opens the file, and compares with what the list says next.
+pub fn open(list: i32, file: &[u8]) -> Verdict {
+    let want = read_opening(list);
+    judge_open(file, want)
+}
+
+fn decode_words(file: &[u8], room: &mut [i32]) -> Said
+    ensures says { λ r. ⌜ r ≡ saidBy (decodeOf (now (file .entry)) (length (now (room .entry))) .outcome) ⌝ }
+    ensures puts { λ _. ⌜ now (room .exit) ≡ decodeInto (now (file .entry)) (now (room .entry)) ⌝ }
+{
+    of_answer(reader::decode_samples(file, room))
+}
+
+// The entry decodes into a room of samples, which is changed at `spoiled` before it is compared.
+fn decode_by_entry(file: &[u8], spoiled: usize, room: &mut [i32], want: Recorded) -> bool
+    ensures says { λ r. ⌜ r ≡ entryDecodes (now (file .entry)) spoiled want (now (room .entry)) ⌝ }
+    ensures leaves { λ _. ⌜ now (room .exit) ≡ decodedWords (now (file .entry)) spoiled (now (room .entry)) ⌝ }
+{
+    fill(Container::Words, room, &mut []);
+    let said = decode_words(file, room);
+    spoil(Container::Words, room, &mut [], spoiled);
+    is_recorded(said, want, Container::Words, room, &[])
+}
+
+fn decode_bytes(file: &[u8], room: &mut [u8], bits: u16) -> Said
+    ensures says { λ r. ⌜ r ≡ saidByHost (hostDecode (now (file .entry)) (length (now (room .entry)))) bits ⌝ }
+    ensures puts { λ _. ⌜ now (room .exit) ≡ hostDecodeInto (now (file .entry)) (now (room .entry)) ⌝ }
+{
+    of_result(ncw::ncw_decode(file, room), bits)
+}
+
+// The host boundary decodes into a room of bytes.
+fn decode_by_host(file: &[u8], spoiled: usize, room: &mut [u8], want: Recorded) -> bool
+    ensures says { λ r. ⌜ r ≡ hostDecodes (now (file .entry)) spoiled want (now (room .entry)) ⌝ }
+    ensures leaves { λ _. ⌜ now (room .exit) ≡ decodedBytes (now (file .entry)) spoiled (now (room .entry)) ⌝ }
+{
+    fill_bytes(room);
+    let said = decode_bytes(file, room, want.bits);
+    is_answered(said, spoiled, room, want)
+}
+
+// Both are asked, each in a room of its own.
+fn judge_decode(
+    file: &[u8],
+    spoiled: usize,
+    words: &mut [i32],
+    bytes: &mut [u8],
+    want: Recorded,
+) -> Verdict
+    ensures says { λ r. ⌜ (let same = bothDecode (now (file .entry)) spoiled want
+        (now (words .entry)) (now (bytes .entry)) in r ≡ verdictOf same want) ⌝ }
+    ensures leaves { λ _. ⌜ now (words .exit) ≡ decodedWords (now (file .entry)) spoiled (now (words .entry)) ⌝ }
+    ensures writes { λ _. ⌜ now (bytes .exit) ≡ decodedBytes (now (file .entry)) spoiled (now (bytes .entry)) ⌝ }
+{
+    let by_entry = decode_by_entry(file, spoiled, words, want);
+    let by_host = decode_by_host(file, spoiled, bytes, want);
+    judged(by_entry & by_host, want)
+}
+
+// Decodes the file into each room, and compares with what the list says next. Both rooms are changed on purpose at
+// sample `spoiled`, where they reach so far.
+pub fn decode(
+    list: i32,
+    file: &[u8],
+    spoiled: usize,
+    words: &mut [i32],
+    bytes: &mut [u8],
+) -> Verdict {
+    let want = read_recorded(list, true);
+    judge_decode(file, spoiled, words, bytes, want)
+}
+
+// The walk stands at a group, and after the step is to stand at `next`.
+fn judge_step(
+    file: &[u8],
+    group: u32,
+    spoiled: usize,
+    room: &mut [i32],
+    want: Recorded,
+    next: u32,
+) -> Verdict
+    ensures says { λ r. ⌜ (let same = stepsTo (now (file .entry)) group spoiled want next
+        (now (room .entry)) in r ≡ verdictOf same want) ⌝ }
+    ensures leaves { λ _. ⌜ (let before = now (room .entry) in
+        now (room .exit) ≡ steppedWords (now (file .entry)) group spoiled before) ⌝ }
+{
+    fill(Container::Words, room, &mut []);
+    let step = walk::step_at(file, group, room);
+    spoil(Container::Words, room, &mut [], spoiled);
+    let is_same = is_recorded(of_answer(step.answer), want, Container::Words, room, &[]);
+    judged(is_same & (step.next == next), want)
+}
+
+// One step of a walk that stands at `group`, compared with what the list says next. The room is changed on purpose at
+// sample `spoiled`, where it reaches so far.
+pub fn step(list: i32, file: &[u8], group: u32, spoiled: usize, room: &mut [i32]) -> Verdict {
+    let want = read_recorded(list, true);
+    let next = replay_list::read_u32(list);
+    judge_step(file, group, spoiled, room, want, next)
+}

@@ -1,0 +1,29 @@
+-- The room is filled, lent and judged in turn: each call is given what the one before leaves.
+use borrow.Author.Needs.{needs}
+use Prim.Native.Nat.{ℕ}
+use mathlib.Core.List.{List}
+use lib.ListN.{length}
+use Rattle.replay_list.proofs.Wholes.{asked-bytes}
+use Rattle.replay_writing.specs.Written.{hostSays, hostPuts}
+use Rattle.replay_writing.proofs.write_by_host.Statement.{statement}
+use Rattle.replay_writing.proofs.write_by_host.Tie as tie
+
+returns : tie.Need-returns
+returns c =
+    let judged = c .before .before in
+    let asked = judged .before .before .before .before in
+    let filled = asked .before .before .before .before in
+    let x = filled .before .before .before .before .before .args in
+    asked-bytes
+    (λ (lent : List ℕ). hostSays (x .way) (x .p) (x .old .now) (x .samples .now) (x .want .bits) (length lent))
+    (hostPuts (x .way) (x .p) (x .old .now) (x .samples .now))
+    (x .room .now) _ _ _ _ (x .spoiled) (x .want) _
+    (filled .fill-bytes .ensures)
+    (asked .write-bytes .ensures .0)
+    (asked .write-bytes .ensures .1)
+    (judged .is-answered .ensures)
+
+pub write-by-host-spec : {M : Type 1} → statement M
+write-by-host-spec =
+    tie.close
+    (tie.spec (λ c κs. search needs) (λ c κs. search needs) (λ c κs. search needs) (λ c. search needs) returns)
