@@ -53,7 +53,10 @@ pub record Encodings : Type 0 where
   pub odd-in-auto : said (checkEncode (pcm 2 16) Auto oddAtLast) ≡ 0
   pub negative-odd : said (checkEncode (pcm 2 16) MidSide (negsuc 0 ∷ pos 1 ∷ [])) ≡ 0
   pub negative-differs : said (checkEncode (pcm 2 16) MidSide (negsuc 0 ∷ pos 2 ∷ [])) ≡ 35
-  -- the width, to its end
+  -- the width: 1 and −2 are the ends of what two bits hold; to its own end
+  pub width-2 : leastWidth (pos 1 ∷ negsuc 1 ∷ []) ≡ 2
+  pub width-above-2 : leastWidth (pos 2 ∷ []) ≡ 3
+  pub width-below-2 : leastWidth (negsuc 2 ∷ []) ≡ 3
   pub width-31 : leastWidth (pos 1073741823 ∷ []) ≡ 31
   pub width-32 : leastWidth (pos 1073741824 ∷ []) ≡ 32
   pub width-lowest : leastWidth (negsuc 2147483647 ∷ []) ≡ 32
@@ -109,6 +112,9 @@ encodings =
       odd-in-auto = refl;
       negative-odd = refl;
       negative-differs = refl;
+      width-2 = refl;
+      width-above-2 = refl;
+      width-below-2 = refl;
       width-31 = refl;
       width-32 = refl;
       width-lowest = refl;

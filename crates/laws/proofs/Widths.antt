@@ -1,13 +1,17 @@
--- The width that differences take: the least from 2 that holds all of them, where that is under 32; and the width of
--- a block that is read.
-use Prim.Native.Nat.{ℕ, zero, suc, _+_, _≤_, _<_}
-use mathlib.Core.Path.{_≡_, refl, sym, subst}
+-- The width that differences take: the least from 2 that holds all of them, where that is under 32; what it is by the
+-- leading zeros of one number; and the width of a block that is read.
+use Prim.Native.Nat.{ℕ, zero, suc, _+_, _-_, _^_, _≤_, _<_, max}
+use mathlib.Core.Path.{_≡_, refl, sym, ap, _∙_, subst}
+use mathlib.Core.Logic.{⊎-elim}
 use mathlib.Core.Bool.{Bool, true, false, cond}
 use mathlib.Core.List.{List}
+use native.Mathlib.Nat.{eq-zero-or-pos, max-eq-right, le-trans, eq-or-lt-of-le, lt-of-not-le}
 use native.Mathlib.Omega.{arith}
 use lib.IntN.{ℤ, pos, negsuc}
+use lib.Count.{leadingZeros, leading-of-zero, leading-top}
 use lib.Dec.{leb}
-use borrow.Author.Tests.{leb-true}
+use lib.Pow.{pow-mono}
+use borrow.Author.Tests.{leb-true, lt-ltb, le-ltb}
 use Rattle.format.specs.Lists.{every}
 use Rattle.format.specs.Numbers.{holds}
 use Rattle.format.specs.Packed.{coding, widthOf, isBeyond}
@@ -42,6 +46,49 @@ width-low ds = least-low 30 2 ds
 pub width-every : (ds : List ℤ) → leastWidth ds < 32 → every (holds (leastWidth ds)) ds ≡ true
 unfolding leastWidth
 width-every ds h = least-holds 30 2 ds h
+
+-- ---- the width in one pass
+
+-- m stands for vs: the widths that hold all of vs are those that hold m
+abbrev pub StandsFor : ℕ → List ℤ → Type 0
+StandsFor m vs = (b : ℕ) → every (holds b) vs ≡ holds b (pos m)
+
+module _ (vs : List ℤ) (m : ℕ) (same : StandsFor m vs) where
+  -- a width w that holds m, where none from b up to it does, is the least from b on
+  least-at : (n b w : ℕ) → b ≤ w → w ≤ b + n → m < 2 ^ (w - 1) → ((j : ℕ) → b ≤ j → j < w → 2 ^ (j - 1) ≤ m) → leastFrom n b vs ≡ w
+  unfolding leastFrom
+  least-at zero b w l u h under = omega arith
+  least-at (suc n) b w l u h under =
+      ⊎-elim
+      (λ e. ap here (same b ∙ lt-ltb m (2 ^ (b - 1)) (subst (λ (x : ℕ). m < 2 ^ (x - 1)) (sym e) h)) ∙ e)
+      (λ q. ap here (same b ∙ le-ltb m (2 ^ (b - 1)) (under b (omega arith) q)) ∙ least-at n (b + 1) w (omega arith) (omega arith) h (λ j p. under j (omega arith)))
+      (eq-or-lt-of-le l)
+    where
+      here : Bool → ℕ
+      here t = cond t b (leastFrom n (b + 1) vs)
+
+  -- j is the place of m's highest bit
+  topped : (j : ℕ) → m < 2 ^ 31 → leadingZeros 32 m + suc j ≡ 32 → 2 ^ j ≤ m → m < 2 ^ suc j → leastWidth vs ≡ max 2 (33 - leadingZeros 32 m)
+  unfolding leastWidth
+  topped j u z l h =
+      let low : j < 31 = lt-of-not-le (λ g. absurd (omega (arith, pow-mono {i = 31} {j = j} g))) in
+      let w : 33 - leadingZeros 32 m ≡ suc (suc j) = omega arith in
+      let e : suc j ≡ suc (suc j) - 1 = omega arith in
+      least-at 30 2 (suc (suc j)) (omega arith) (omega arith) (subst (λ (x : ℕ). m < 2 ^ x) e h) (λ i p q. le-trans (pow-mono {i = i - 1} {j = j} (omega arith)) l)
+      ∙ sym (ap (max 2) w ∙ max-eq-right (omega arith))
+
+  -- the least width of vs is 33 less the leading zeros of m, and at least 2
+  pub width-zeros : m < 2 ^ 31 → leastWidth vs ≡ max 2 (33 - leadingZeros 32 m)
+  unfolding leastWidth
+  width-zeros u = ⊎-elim none some (eq-zero-or-pos m)
+    where
+      none : m ≡ 0 → leastWidth vs ≡ max 2 (33 - leadingZeros 32 m)
+      none e =
+          least-at 30 2 2 (omega arith) (omega arith) (omega arith) (λ j p q. absurd (omega arith))
+          ∙ ap (λ (z : ℕ). max 2 (33 - z)) (sym (ap (leadingZeros 32) e ∙ leading-of-zero 32))
+
+      some : 0 < m → leastWidth vs ≡ max 2 (33 - leadingZeros 32 m)
+      some p = let top = leading-top 32 m p (omega arith) in topped (top .0) u (top .1) (top .2) (top .3)
 
 -- ---- a width is the depth, or from 1 to 32
 module _ (P : ℕ → Type 0) (small : (n : ℕ) → suc n ≤ 32 → P (suc n)) where

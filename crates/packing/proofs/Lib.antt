@@ -4,7 +4,7 @@ pub mod Numbers
 pub mod Steps
 pub mod Run
 pub mod Fits
--- the least width and the differences, one at a time; the largest magnitude; differences stored
+-- the differences, one at a time; the bits of all folded values; differences stored
 pub mod Definitions
 pub mod Widths
 pub mod Sweeps

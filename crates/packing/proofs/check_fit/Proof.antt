@@ -1,4 +1,4 @@
--- A width holds every value where it holds the largest magnitude, which is the one test that is made.
+-- A width holds every value where it holds the folded bits, which is the one test that is made.
 use borrow.Author.Needs.{needs}
 use Rattle.packing.proofs.Widths.{fits-all, fits-not}
 use Rattle.packing.proofs.check_fit.Statement.{statement}

@@ -1,46 +1,21 @@
--- The loop's invariant: no width from 2 below b holds m.
-use Prim.Native.Nat.{_-_, _≤_}
+-- The folded bits stand for the values, so their leading zeros tell the least width.
+use mathlib.Core.Path.{sym, _∙_}
+use native.Mathlib.Nat.{max-eq-left, max-eq-right}
 use native.Mathlib.Omega.{arith}
+use lib.Count.{leading-le}
 use borrow.Author.Needs.{needs}
-use Rattle.packing.proofs.Widths.{Sought, sought-none, sought-more, sought-here, sought-last}
+use Rattle.laws.proofs.Widths.{width-zeros}
 use Rattle.packing.proofs.width.Statement.{statement}
 use Rattle.packing.proofs.width.Tie as tie
 
-abbrev Inv-loop : tie.InvT-loop
-Inv-loop m b₀ b =
-    (2 ≤ b)
-    × (b ≤ 32)
-    × Sought m b
+sub-b : tie.Need-sub-b
+sub-b c = omega (arith, leading-le 32 (c .folded-bits .result))
 
-abbrev μ-loop : tie.MeasureT-loop
-μ-loop m b₀ b = 32 - b
+returns : tie.Need-returns
+returns c = let bits = c .before .folded-bits in sym (width-zeros _ _ (bits .ensures .1) (bits .ensures .0) ∙ max-eq-left (omega arith))
 
-loop-holds : tie.Need-loop-holds Inv-loop μ-loop
-loop-holds c = (omega arith, omega arith, sought-none _)
-
-returns : tie.Need-returns Inv-loop μ-loop
-returns c = search sought-here
-
-loop-again : tie.Need-loop-again Inv-loop μ-loop
-loop-again c =
-    (omega arith, omega arith, sought-more _ _ _ (c .before .before .loop-test .taken) (c .before .pow2 .ensures) (omega arith) (c .before .before .before .loop .inv .2))
-
-returns-2 : tie.Need-returns-2 Inv-loop μ-loop
-returns-2 c = search sought-last
+returns-2 : tie.Need-returns-2
+returns-2 c = let bits = c .before .folded-bits in sym (width-zeros _ _ (bits .ensures .1) (bits .ensures .0) ∙ max-eq-right (omega arith))
 
 pub width-spec : {M : Type 1} → statement M
-width-spec =
-    tie.close
-    (tie.spec
-    Inv-loop
-    μ-loop
-    (λ c κs. search needs)
-    (λ c. search needs)
-    loop-holds
-    (λ c. search needs)
-    (λ c κs. search needs)
-    returns
-    (λ c. search needs)
-    (λ c. search needs)
-    loop-again
-    returns-2)
+width-spec = tie.close (tie.spec (λ c κs. search needs) sub-b returns returns-2)
