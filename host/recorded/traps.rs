@@ -360,7 +360,7 @@ const TRAPS: &[(&str, &[&str])] = &[
     ("encoding: 35 in a later group", &["trap: the last group is refused, encoding", "encode: 514 frames, parity differs"]),
     ("encoding: 32 in a later group", &["trap: the last sample is outside"]),
     ("encoding: padding by the last sample", &["trap: padding by the last", "encode: a last sample far", "encode: a short last group", "encode: a pair far"]),
-    ("encoding: the width search begins at 2", &["trap: equal samples", "encode: one sample"]),
+    ("encoding: the least width is 2", &["trap: equal samples", "encode: one sample"]),
     ("encoding: a tie is direct", &["trap: a tie is direct", "encode: the pair 5, 5"]),
     ("encoding: raw where the width is the depth", &["trap: 0, 16383", "trap: 0, 16384", "trap: 0, 4194303", "trap: 0, 4194304"]),
     ("boundary: 38, then 39, before all others", &["trap: 38 and 39"]),

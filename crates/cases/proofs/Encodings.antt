@@ -53,7 +53,7 @@ pub record Encodings : Type 0 where
   pub odd-in-auto : said (checkEncode (pcm 2 16) Auto oddAtLast) ≡ 0
   pub negative-odd : said (checkEncode (pcm 2 16) MidSide (negsuc 0 ∷ pos 1 ∷ [])) ≡ 0
   pub negative-differs : said (checkEncode (pcm 2 16) MidSide (negsuc 0 ∷ pos 2 ∷ [])) ≡ 35
-  -- the width: 1 and −2 are the ends of what two bits hold; to its own end
+  -- the width: two bits hold −2 to 1; it goes up to 32
   pub width-2 : leastWidth (pos 1 ∷ negsuc 1 ∷ []) ≡ 2
   pub width-above-2 : leastWidth (pos 2 ∷ []) ≡ 3
   pub width-below-2 : leastWidth (negsuc 2 ∷ []) ≡ 3

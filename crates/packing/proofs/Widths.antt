@@ -25,7 +25,7 @@ use Rattle.laws.proofs.Parts.{left-now}
 use Rattle.laws.proofs.Widths.{StandsFor}
 use Rattle.packing.specs.Fit.{checkFit}
 
--- the magnitude by the bits
+-- `mag` by the bits
 pub mag-neg : (x : ℤ) → SFits w32 x → ltZ (toZ w32 (ofZ w32 x)) (pos 0) ≡ true → 4294967295 - ofZ w32 x ≡ mag x
 mag-neg (pos n) f t = let u = ltb-true n 0 (rw (toZ-ofZ w32 (pos n) f) at t) in absurd (omega arith)
 mag-neg (negsuc n) f t = omega (arith, f .sfits)
@@ -49,7 +49,7 @@ or-below k m f = by (ltb m (2 ^ k)) (ltb f (2 ^ k)) refl refl
     by true false p q = le-ltb (bitOr m f) (2 ^ k) (omega (arith, f-in, ltb-false f (2 ^ k) q))
     by false u p q = le-ltb (bitOr m f) (2 ^ k) (omega (arith, m-in, ltb-false m (2 ^ k) p))
 
--- m stands for those before i
+-- m in place of the values before i: the same widths hold m and the rest as hold all
 module _ (vs : List ℤ) where
   abbrev pub SoFar : ℕ → ℕ → Type 0
   SoFar m i = (b : ℕ) → (holds b (pos m) && every (holds b) (drop i vs)) ≡ every (holds b) vs

@@ -5,7 +5,7 @@ use format::Depth;
 use format::Refusal;
 use le_bytes::put_u32_le;
 ghost use mathlib.Core.Path.{_≡_};
-ghost use Prim.Native.Nat.{ℕ, _-_, _<_, _≤_, _^_};
+ghost use Prim.Native.Nat.{ℕ, _<_, _≤_, _^_};
 ghost use mathlib.Core.Bool.{true};
 ghost use lib.IntN.{pos};
 ghost use lib.Signed.{mag};
@@ -72,8 +72,8 @@ fn folded(x: i32) -> u32
     if x < 0 { !x as u32 } else { x as u32 }
 }
 
-// The bits of all folded values in one number, which stands for the values: b bits hold them where they hold it. An OR
-// is one vector instruction everywhere, the maximum that would do as well is not.
+// The bits of all folded values in one number, which stands for the values: b bits hold them where they hold it. A
+// maximum would do as well, by more instructions on x86-64.
 fn folded_bits(values: [i32; 512]) -> u32
     ensures { λ r. ⌜ (r < 2 ^ 31) × ((b : ℕ) → every (holds b) values ≡ holds b (pos r)) ⌝ }
 {

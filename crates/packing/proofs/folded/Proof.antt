@@ -1,4 +1,4 @@
--- A negative x turned over is - x - 1, its magnitude; any other is its own.
+-- A negative x turned over is - x - 1, its `mag`; any other is its own.
 use Prim.Native.Nat.{_-_, _^_, _<_}
 use native.Mathlib.Omega.{arith}
 use mir.Syntax.{w32}

@@ -1,4 +1,4 @@
--- The loop's invariant: m stands for the values before i, and has 31 bits at most.
+-- The loop's invariant: with m in place of the values before i the same widths hold all; m has 31 bits at most.
 use mathlib.Core.Path.{_≡_, ap, _∙_}
 use Prim.Native.Nat.{_≤_, _<_, _-_, _^_}
 use native.Mathlib.Omega.{arith}
