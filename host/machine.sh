@@ -62,3 +62,14 @@ x86_rust() {
     fi
     native_rust
 }
+
+# as_rt_runs PROGRAM WORDS..: one of the programs that rt makes; on Arm in the toolchain's own emulator.
+as_rt_runs() {
+    local kit
+    if [ "$machine" = x86_64 ]; then
+        "$@"
+        return
+    fi
+    kit=${RATTLE_HOME:-$(dirname "$(dirname "$(readlink -f "$(command -v rt)")")")}/on/$machine/toolchain
+    "$kit/bin/qemu-x86_64" "$kit/lib/ld-linux-x86-64.so.2" --library-path "$kit/lib" "$@"
+}

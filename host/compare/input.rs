@@ -81,24 +81,8 @@ impl<A: Answers> Tally<A> {
 /// The number that stands for success: it is no refusal's.
 pub const SUCCESS: u32 = 0;
 
-/// Stands for an error that has no number, which nothing is refused by.
-const WITHOUT_NUMBER: u32 = 999;
-
-/// Document 01's number for an error of the drop-in crate.
-pub fn number_of(error: &ours::NcwError) -> u32 {
-    error.number().unwrap_or(WITHOUT_NUMBER)
-}
-
 /// Document 01's number, and the bits word where that is 4.
 pub type Refused = (u32, i16);
-
-pub fn refused(error: ours::NcwError) -> Refused {
-    let number = number_of(&error);
-    match error {
-        ours::NcwError::UnsupportedBitDepth(bits) => (number, bits),
-        _ => (number, 0),
-    }
-}
 
 pub fn word(number: u32) -> String {
     match number {

@@ -18,6 +18,7 @@ mod boundary;
 mod changed;
 mod crash;
 mod encoding;
+mod errors;
 mod families;
 #[allow(dead_code)]
 #[path = "../definitions/faults.rs"]
@@ -33,6 +34,8 @@ mod input;
 mod inputs;
 mod lent;
 mod limits;
+#[path = "../definitions/misfit.rs"]
+mod misfit;
 #[path = "../definitions/orders.rs"]
 mod orders;
 mod parts;

@@ -1,10 +1,15 @@
 //! How often something was met, by rows and columns.
 use std::collections::BTreeMap;
 
-#[derive(Default)]
 pub struct Table<R, const COLUMNS: usize>(BTreeMap<R, [u64; COLUMNS]>)
 where
     R: Copy + Ord;
+
+impl<R: Copy + Ord, const COLUMNS: usize> Default for Table<R, COLUMNS> {
+    fn default() -> Self {
+        Table(BTreeMap::new())
+    }
+}
 
 impl<R: Copy + Ord, const COLUMNS: usize> Table<R, COLUMNS> {
     /// What is beyond the last column is counted there.

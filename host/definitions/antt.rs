@@ -18,7 +18,7 @@ pub fn tests(format: &Path) -> String {
     TESTS
         .replace("@USES@", &lines(&modules, |(name, defined)| uses(name, defined)))
         .replace("@REFUSALS@", &refusals.iter().map(|(name, _)| name.clone()).collect::<Vec<_>>().join(", "))
-        .replace("@WORDS@", &lines(&refusals, |(name, held)| word_in(name, *held)))
+        .replace("@WORDS@", &lines(&refusals, |(name, held)| word_in(name, held.as_deref())))
         .replace("@NAMES@", &modules.iter().map(|(_, defined)| defined.join(" ")).collect::<Vec<_>>().join(" "))
         .replace("@TESTS@", &own_names())
 }
@@ -55,19 +55,22 @@ fn uses(module: &str, defined: &[String]) -> String {
     format!("use Rattle.format.specs.{module}.{{{}}}", defined.join(", "))
 }
 
-/// The cases of the enum, and whether each holds the bits word.
-fn refusals(text: &str) -> Vec<(String, bool)> {
+/// The cases of the enum, and the type of what each holds: the bits word of 4, the place of 36.
+fn refusals(text: &str) -> Vec<(String, Option<String>)> {
     let (_, after) = text.split_once("pub enum Refusal {").expect("the enum Refusal");
     let (body, _) = after.split_once('}').expect("its end");
     let cases = body.split(',').map(str::trim).filter(|case| !case.is_empty());
-    cases.map(|case| (case.replace("(i16)", ""), case.ends_with("(i16)"))).collect()
+    let held = |(name, held): (&str, &str)| (name.to_string(), Some(held.trim_end_matches(')').to_string()));
+    cases.map(|case| case.split_once('(').map_or((case.to_string(), None), held)).collect()
 }
 
-fn word_in(name: &str, held: bool) -> String {
-    if held {
-        format!("wordIn ({name} b) = b")
-    } else {
-        format!("wordIn {name} = pos 0")
+/// As an integer, whatever it is.
+fn word_in(name: &str, held: Option<&str>) -> String {
+    match held {
+        None => format!("wordIn {name} = pos 0"),
+        Some("i16") => format!("wordIn ({name} b) = b"),
+        Some("u16") => format!("wordIn ({name} p) = pos p"),
+        Some(held) => panic!("{name} holds {held}"),
     }
 }
 

@@ -4,12 +4,16 @@ mod asking;
 mod faults;
 mod files;
 mod inputs;
+#[allow(dead_code)]
+mod misfit;
 mod orders;
+mod placed;
 mod random;
 mod samples;
 
 use antt::Numbered;
-use asking::{ask, Answer, Question};
+use asking::{Answer, Question};
+use placed::ask;
 use std::collections::{BTreeMap, BTreeSet};
 use std::fs;
 use std::path::Path;
@@ -163,6 +167,7 @@ fn asked(question: &Question) -> String {
 fn answered(answer: &Answer) -> String {
     match answer {
         Answer::Refused(4, word) => format!("refused 4, bits word {word}"),
+        Answer::Refused(36, place) => format!("refused 36, place {place}"),
         Answer::Refused(number, _) => format!("refused {number}"),
         Answer::Opened(numbers) => format!("opened {numbers:?}"),
         Answer::Samples(samples) => format!("read {samples:?}"),

@@ -1,12 +1,13 @@
-//! What the list says of a question: the original's answer, with what document 01 adds (38, 39, 50, done).
-use crate::asking::{ask, Answer, Question as Asking};
+//! What the list says of a question: the original's answer, with what document 01 adds (38, 39, 50, done) and the place of 36.
+use crate::asking::{Answer, Question as Asking};
 use crate::faults::put;
+use crate::placed::ask;
 use crate::reread::{Given, Question};
 use ncw::{PcmSpec, StereoMode};
 
 #[derive(Clone, PartialEq)]
 pub enum Told {
-    /// The number, and the bits word where that is 4.
+    /// The number, and the value told with it: the bits word of 4, the place of 36.
     Refused(u8, i16),
     Done,
     /// The seven header numbers, the group count, and 1 for float or 0.
@@ -32,7 +33,7 @@ impl Told {
     pub fn bytes(&self) -> Vec<u8> {
         let mut out = vec![self.number()];
         match self {
-            Told::Refused(4, bits) => out.extend(bits.to_le_bytes()),
+            Told::Refused(4 | 36, value) => out.extend(value.to_le_bytes()),
             Told::Refused(..) | Told::Done => {}
             Told::Opened(numbers) => {
                 numbers[..2].iter().for_each(|number| out.extend((*number as u16).to_le_bytes()));
@@ -46,7 +47,7 @@ impl Told {
 
     pub fn short(&self) -> String {
         match self {
-            Told::Refused(4, bits) => format!("4 ({bits})"),
+            Told::Refused(number @ (4 | 36), value) => format!("{number} ({value})"),
             Told::Refused(number, _) => number.to_string(),
             Told::Done => "done".to_string(),
             Told::Opened(numbers) => numbers.map(|number| number.to_string()).join(" "),
@@ -67,7 +68,7 @@ fn sum(numbers: &[i32]) -> u32 {
 
 fn refused(answer: &Answer) -> Told {
     match answer {
-        Answer::Refused(number, bits) => Told::Refused(*number as u8, *bits),
+        Answer::Refused(number, value) => Told::Refused(*number as u8, *value),
         _ => panic!("an answer to another question"),
     }
 }

@@ -1,6 +1,6 @@
 //! Answers that are false on purpose, and rooms that are changed on purpose: a program that finds none of them finds nothing.
 use crate::answers::Told;
-use crate::blocks::filled;
+use crate::blocks::{filled, raw};
 use crate::encodings::spec;
 use crate::noisy::noisy;
 use crate::random::Random;
@@ -24,6 +24,8 @@ pub fn all(tape: &mut Tape) {
     of_encoding(tape);
     tape.case("false on purpose: re-encoding");
     of_reencoding(tape);
+    tape.case("false on purpose: the place of 36");
+    of_places(tape);
 }
 
 /// Each of the nine fields, and the number.
@@ -140,4 +142,20 @@ fn of_reencoding(tape: &mut Tape) {
     tape.file(&damaged);
     lies(tape, &[wrong_bits, another_number, accepted], question);
     spoils(tape, &[0, 69], question);
+}
+
+/// One place too high, one too low, none where there is one to tell; beyond the last, and the last for the first.
+fn of_places(tape: &mut Tape) {
+    tape.settings(spec(1, 16));
+    tape.file(&filled(1, 512, || raw(4, &[])).bytes());
+    for (place, said) in [(0, [1, 511, -1]), (2, [3, 1, 0]), (511, [512, 510, 0])] {
+        let samples: Vec<i32> = (0..512).map(|k| if k == place { 8 } else { 0 }).collect();
+        tape.samples(samples);
+        said.iter().for_each(|said| tell(tape, *said));
+    }
+}
+
+fn tell(tape: &mut Tape, place: i16) {
+    tape.lie(move |told, _| *told = Told::Refused(36, place));
+    tape.reencode(400);
 }

@@ -4,6 +4,7 @@ use crate::cases::{self, Case};
 use crate::chains;
 use crate::encodings::{self, Encoding};
 use crate::lies;
+use crate::misfits;
 use crate::pairs;
 use crate::tape::{samples_in, Tape};
 use crate::templates::{self, Reencoding};
@@ -21,6 +22,7 @@ pub fn whole() -> Tape {
     pairs::all(&mut tape);
     chains::all(&mut tape);
     lies::all(&mut tape);
+    misfits::all().iter().for_each(|case| rewrite(&mut tape, case));
     tape
 }
 

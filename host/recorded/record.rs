@@ -20,10 +20,19 @@ mod inputs;
 mod lies;
 mod lines;
 mod list;
+#[allow(dead_code)]
+#[path = "../compare/writing/lists.rs"]
+mod lists;
+#[allow(dead_code)]
+#[path = "../definitions/misfit.rs"]
+mod misfit;
+mod misfits;
 mod noisy;
 #[path = "../definitions/orders.rs"]
 mod orders;
 mod pairs;
+#[path = "../definitions/placed.rs"]
+mod placed;
 #[path = "../definitions/random.rs"]
 mod random;
 mod recording;

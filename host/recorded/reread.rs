@@ -114,7 +114,7 @@ impl<'a> Reader<'a> {
     /// The bytes of an answer, whatever it says.
     fn answer(&mut self, kind: u8) -> &'a [u8] {
         let more = match (self.left[0], kind) {
-            (4, _) => 2,
+            (4 | 36, _) => 2,
             (0, 16) => 29,
             (0, _) => 8,
             _ => 0,

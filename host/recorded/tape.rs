@@ -41,7 +41,7 @@ pub struct Named {
 
 pub struct Tape {
     out: Vec<u8>,
-    items: usize,
+    pub items: usize,
     spaces: [Space; 2],
     settings: Option<PcmSpec>,
     /// What the last question wrote, or read, until the next one.

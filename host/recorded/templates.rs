@@ -38,7 +38,7 @@ fn case(name: &str, spec: PcmSpec, samples: impl Into<Samples>, template: Vec<u8
 }
 
 /// At 44,100, with the template's own channels and depth.
-fn with(name: &str, samples: impl Into<Samples>, template: &File) -> Reencoding {
+pub fn with(name: &str, samples: impl Into<Samples>, template: &File) -> Reencoding {
     case(name, spec(template.channels, template.depth), samples, template.bytes())
 }
 

@@ -20,6 +20,10 @@ mono s t = said (checkReencode (pcm 1 16) s t)
 abbrev stereo : ℤ → ℤ → List ℕ → ℕ
 stereo l r t = said (checkReencode (pcm 2 16) (l ∷ r ∷ []) t)
 
+-- it refuses 36 with the place k
+abbrev misfits : ℕ → List ℤ → List ℕ → ℕ → Type 0
+misfits channels s t k = checkReencode (pcm channels 16) s t ≡ No (WidthTooSmall k)
+
 -- a template of one mono frame whose group is g; of one stereo frame whose blocks are a and b
 abbrev one : List ℕ → List ℕ
 one g = laid 1 16 1 [] (g ∷ []) []
@@ -55,6 +59,10 @@ twoGroups = laid 1 16 513 [] (bit ∷ bit ∷ []) []
 
 abbrev zeros : List ℤ
 zeros = replicate 513 (pos 0)
+
+-- three mid/side frames: mid 4 and side −1, differences at width 2
+abbrev sides : List ℕ
+sides = encodedFile (pcm 2 16) MidSide (pos 3 ∷ pos 5 ∷ pos 3 ∷ pos 5 ∷ pos 3 ∷ pos 5 ∷ [])
 
 -- faults of the template five, from the last check to the first
 abbrev faults : List (List ℕ → List ℕ)
@@ -145,9 +153,22 @@ pub record Reencodings : Type 0 where
   -- 50: the template's length
   pub room : reencodeOf (pcm 1 16) (pos 5 ∷ []) five 272 ≡ wrote 272
   pub room-short : reencodeOf (pcm 1 16) (pos 5 ∷ []) five 271 ≡ refusedBy OutputTooShort
-  pub room-last : reencodeOf (pcm 1 16) (pos 3 ∷ []) five 0 ≡ refusedBy WidthTooSmall
+  pub room-last : reencodeOf (pcm 1 16) (pos 3 ∷ []) five 0 ≡ refusedBy (WidthTooSmall 0)
   pub kept : reencodeInto (pcm 1 16) (pos 3 ∷ []) five (replicate 272 7) ≡ replicate 272 7
   pub after : reencodeInto (pcm 1 16) (pos 5 ∷ []) five (replicate 273 7) ≡ five ++ (7 ∷ [])
+  -- 36 tells the place: of a difference to the sample after it, the last that can miss, and the one to a padded sample
+  pub place-difference : misfits 1 (replicate 4 (pos 7) ++ (pos 9 ∷ [])) (laid 1 16 5 [] (small 0 ∷ []) []) 3
+  pub place-510 : misfits 1 (replicate 511 (pos 4) ++ (pos 9 ∷ [])) (full (pos 5)) 510
+  pub place-padded : misfits 1 (pos 3 ∷ []) five 0
+  -- of a raw value
+  pub place-raw : misfits 1 (pos 0 ∷ pos 0 ∷ pos 1 ∷ []) (laid 1 16 3 [] (bit ∷ []) []) 2
+  pub place-511 : misfits 1 (replicate 511 (pos 0) ++ (pos 1 ∷ [])) (laid 1 16 512 [] (bit ∷ []) []) 511
+  -- in the second group; in both
+  pub place-later : misfits 1 (replicate 512 (pos 0) ++ (pos 1 ∷ [])) twoGroups 0
+  pub place-sooner : misfits 1 (replicate 511 (pos 0) ++ (pos 1 ∷ pos 1 ∷ [])) twoGroups 511
+  -- the side misses and the mid does not; both do
+  pub place-side : misfits 2 (pos 3 ∷ pos 5 ∷ pos 3 ∷ pos 5 ∷ pos 9 ∷ negsuc 0 ∷ []) sides 1
+  pub place-mid : misfits 2 (pos 3 ∷ pos 5 ∷ pos 9 ∷ negsuc 0 ∷ pos 9 ∷ pos 9 ∷ []) sides 1
 
 pub reencodings : Reencodings
 unfolding document-01
@@ -211,4 +232,13 @@ reencodings =
       room-last = refl;
       kept = refl;
       after = refl;
+      place-difference = refl;
+      place-510 = refl;
+      place-padded = refl;
+      place-raw = refl;
+      place-511 = refl;
+      place-later = refl;
+      place-sooner = refl;
+      place-side = refl;
+      place-mid = refl;
     }

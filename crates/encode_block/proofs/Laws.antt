@@ -17,17 +17,16 @@ use Rattle.format.specs.Lists.{over, every}
 use Rattle.format.specs.Numbers.{le, digits, codeOf, holds}
 use Rattle.format.specs.Packed.{packing}
 use Rattle.format.specs.Blocks.{blockMark}
-use Rattle.format.specs.Refusals.{refuse}
 use Rattle.format.specs.Answers.{filled}
+use Rattle.format.specs.Fit.{checkFit}
 use Rattle.format.specs.Encoding.{differences, leastWidth, firstValue, blockBytes, encodedBlock}
 use Rattle.format.specs.declared.refusals.Checked.{Checked}
-use Rattle.format.specs.declared.refusals.Checked.the-variants.{Fine}
 use Rattle.laws.proofs.Signs.{minus-is, length-packing}
 use Rattle.laws.proofs.Widths.{width-low, width-every}
+use Rattle.laws.proofs.Misfits.{fit-fine}
 use Rattle.laws.proofs.Over.{over-sets, lent-behind}
 use Rattle.laws.proofs.Written.{widthIn, block-size}
 use Rattle.encode_block.specs.Front.{front}
-use Rattle.packing.specs.Fit.{checkFit}
 
 -- ---- the header
 
@@ -49,10 +48,6 @@ module _ (base : ℤ) (bits flags code : ℕ) (xs d₁ d₂ d₃ d₄ d₅ : Lis
       ∙ sym (over-sets (front base bits flags) xs (omega (arith, length-front base bits flags)))
 
 -- ---- the bytes
-
-fit-fine : (b : ℕ) (vs : List ℤ) → every (holds b) vs ≡ true → checkFit b vs ≡ Fine
-unfolding checkFit refuse
-fit-fine b vs e = rw e
 
 module _ (base : ℤ) (bits flags b : ℕ) (vs : List ℤ) (xs d ys : List ℕ) (fits : SFits w32 base) (all : every (holds b) vs ≡ true) where
   pub block-written : d ≡ over (front (toZ w32 (ofZ w32 base)) bits flags) xs → ys ≡ filled (checkFit b vs) (packing b vs) (take (16 + 64 * b - 16) (drop 16 d))

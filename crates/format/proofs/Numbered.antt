@@ -1,5 +1,6 @@
 -- Document 01, "Numbers of refusal": its table, each row by computation, and the limits of 31, 33 and 37: whole
 -- frames, their count, and the data size.
+use Prim.Native.Nat.{ℕ}
 use mathlib.Core.Path.{_≡_, refl}
 use lib.IntN.{ℤ}
 use Rattle.format.specs.Units.{checkFrameCount, framedAs, checkFramed}
@@ -67,8 +68,8 @@ pub record Numbered : Type 0 where
   pub not-stereo : number NotStereo ≡ 34
   -- parity differs
   pub parity-differs : number ParityDiffers ≡ 35
-  -- value or difference doesn't fit width
-  pub width-too-small : number WidthTooSmall ≡ 36
+  -- value or difference doesn't fit width; its place is returned too
+  pub width-too-small : (place : ℕ) → number (WidthTooSmall place) ≡ 36
   -- data size over 32 bits
   pub data-too-large : number DataTooLarge ≡ 37
   -- host boundary: unknown mode
@@ -131,7 +132,7 @@ numbered =
       too-many-frames = refl;
       not-stereo = refl;
       parity-differs = refl;
-      width-too-small = refl;
+      width-too-small = λ place. refl;
       data-too-large = refl;
       unknown-mode = refl;
       sample-bytes = refl;

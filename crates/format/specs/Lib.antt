@@ -7,10 +7,11 @@ pub mod Header
 pub mod Packed
 pub mod Blocks
 pub mod MidSide
--- "The units", "Numbers of refusal"
+-- "The units", "Numbers of refusal"; of 36 also document 02's L2
 pub mod Units
 pub mod Refusals
 pub mod Answers
+pub mod Fit
 -- "Order of checks", "Encoding", "Re-encoding"
 pub mod Opening
 pub mod Decoding

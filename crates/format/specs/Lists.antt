@@ -1,7 +1,7 @@
 -- Lists by their parts.
 use Prim.Native.Nat.{ℕ, zero, suc}
 use mathlib.Core.List.{List, [], _∷_, _++_}
-use mathlib.Core.Bool.{Bool, true, false, _&&_, _||_}
+use mathlib.Core.Bool.{Bool, true, false, _&&_, _||_, cond}
 use lib.ListN.{length, take, drop}
 use lib.Dec.{eqb}
 
@@ -41,6 +41,11 @@ module _ {A : Type 0} where
   unfoldable pub every : (A → Bool) → List A → Bool
   every test [] = true
   every test (x ∷ xs) = test x && every test xs
+
+  -- the place of the first element that does not, from 0; where every one does, how many there are
+  unfoldable pub firstNot : (A → Bool) → List A → ℕ
+  firstNot test [] = 0
+  firstNot test (x ∷ xs) = cond (test x) (suc (firstNot test xs)) 0
 
 -- some i below n passes the test
 unfoldable pub anyBelow : (ℕ → Bool) → ℕ → Bool

@@ -6,8 +6,8 @@ use mathlib.Core.Bool.{Bool, not, _&&_, cond}
 use lib.ListN.{length, getD, take, drop}
 use lib.IntN.{ℤ}
 use lib.Dec.{ltb, leb, eqb}
-use Rattle.format.specs.Lists.{from, joined, every, anyBelow}
-use Rattle.format.specs.Numbers.{le, codeOf, holds}
+use Rattle.format.specs.Lists.{from, joined, anyBelow}
+use Rattle.format.specs.Numbers.{le, codeOf}
 use Rattle.format.specs.Header.{isSignature, fieldsOf, groupsOf, entry, groupBytes}
 use Rattle.format.specs.Packed.{widthOf, isBeyond, values, packing}
 use Rattle.format.specs.declared.packed.Coding.{Coding}
@@ -16,10 +16,11 @@ use Rattle.format.specs.Blocks.{isBlock, bitsWord, bitsOf, flagsOf, midB
 use Rattle.format.specs.Blocks.{codingOf, sizeOf, samplesOf, fromBlock}
 use Rattle.format.specs.Refusals.{refuse, _then_, inOrder}
 use Rattle.format.specs.Answers.{answered, filled}
+use Rattle.format.specs.Fit.{checkFit}
 use Rattle.format.specs.Encoding.{framesOf, unwoven, differences, firstValue, midSide, parity, groupIn}
 use Rattle.format.specs.Encoding.{checkSpec, checkSamples}
 use Rattle.format.specs.declared.refusals.Refusal.the-variants.{TooShort, FileSignature, BlockSignature, BitsWord}
-use Rattle.format.specs.declared.refusals.Refusal.the-variants.{NotStereo, ParityDiffers, WidthTooSmall}
+use Rattle.format.specs.declared.refusals.Refusal.the-variants.{NotStereo, ParityDiffers}
 use Rattle.format.specs.declared.refusals.Refusal.the-variants.{TemplateDiffers, TemplateBounds, TemplateOffsets}
 use Rattle.format.specs.declared.refusals.Refusal.the-variants.{ShortGroup, TemplateBits, TemplateFlags}
 use Rattle.format.specs.declared.refusals.Refusal.the-variants.{TemplateBytesLeft, OutputTooShort}
@@ -69,7 +70,7 @@ checkReencodeBlock depth block xs =
     then refuse (ltb 1 (flagsOf block)) TemplateFlags  -- 45
     then refuse (isBeyond (codingOf depth block)) (BitsWord (bitsOf block))  -- 4
     then refuse (ltb (length block) (sizeOf depth block)) TooShort  -- 1
-    then refuse (not (every (holds (widthOf (codingOf depth block))) (valuesFor depth block xs))) WidthTooSmall  -- 36
+    then checkFit (widthOf (codingOf depth block)) (valuesFor depth block xs)  -- 36
 
 -- ---- a group of the template; samples are those of its frames
 

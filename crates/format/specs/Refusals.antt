@@ -19,7 +19,7 @@ use Rattle.format.specs.declared.refusals.Checked.the-variants.{Fine, No
 
 -- ------------------------------------------------------------------------------------------------------------------
 
--- the number of each; 4 returns the bits word too
+-- the number of each; 4 returns the bits word too, and 36 the place of the value or difference
 abbrev pub number : Refusal → ℕ
 number TooShort = 1
 number FileSignature = 2
@@ -44,7 +44,7 @@ number ValueOutside = 32
 number TooManyFrames = 33
 number NotStereo = 34
 number ParityDiffers = 35
-number WidthTooSmall = 36
+number (WidthTooSmall place) = 36
 number DataTooLarge = 37
 number UnknownMode = 38
 number SampleBytes = 39

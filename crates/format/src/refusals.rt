@@ -27,7 +27,7 @@ pub enum Refusal {
     TooManyFrames,
     NotStereo,
     ParityDiffers,
-    WidthTooSmall,
+    WidthTooSmall(u16),
     DataTooLarge,
     UnknownMode,
     SampleBytes,
@@ -76,7 +76,7 @@ impl Refusal {
             Refusal::TooManyFrames => 33, // over 4,294,967,295 frames
             Refusal::NotStereo => 34, // mid/side without stereo
             Refusal::ParityDiffers => 35, // parity differs
-            Refusal::WidthTooSmall => 36, // value or difference doesn't fit width
+            Refusal::WidthTooSmall(_) => 36, // value or difference doesn't fit width; its place is kept, and told too
             Refusal::DataTooLarge => 37, // data size over 32 bits
             Refusal::UnknownMode => 38, // host boundary: unknown mode
             Refusal::SampleBytes => 39, // host boundary: sample bytes not a multiple of 4

@@ -149,7 +149,7 @@ order-refuses check (suc n) r f =
     (λ (l : f .at < n). ap (λ (a : Checked). a then check n) (order-refuses check n r (record { at = f .at; below = l; before = f .before; refuses = f .refuses })))
     (below-suc (f .at) n (f .below))
 
-refusal-first : (check : ℕ → Checked) (n : ℕ) (r : Refusal) → inOrder check n ≡ No r → FirstRefuses check n r
+pub refusal-first : (check : ℕ → Checked) (n : ℕ) (r : Refusal) → inOrder check n ≡ No r → FirstRefuses check n r
 unfolding inOrder _then_
 refusal-first check zero r e = let z : _≡_ {A = ℕ} 0 1 = cc in absurd (omega arith)
 refusal-first check (suc n) r e = by (inOrder check n) refl (refusal-first check n)

@@ -6,12 +6,13 @@ pub mod Parts
 pub mod Each
 pub mod Checks
 pub mod Chain
--- numbers: digits and packing over the width, codes and signs, wrapped sums and differences, halves of them
+-- numbers: digits and packing over the width, codes and signs, widths and what they do not hold, wrapped sums and differences, halves of them
 pub mod Digits
 pub mod Signs
 pub mod Marks
 pub mod Wrap
 pub mod Widths
+pub mod Misfits
 pub mod Up
 pub mod Halves
 pub mod SampleBytes

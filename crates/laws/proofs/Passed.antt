@@ -1,17 +1,17 @@
 -- What holds of a block and of a group whose checks pass: each check, read backwards.
 use Prim.Native.Nat.{ℕ, _≤_, _<_}
-use mathlib.Core.Path.{_≡_, subst}
-use mathlib.Core.Bool.{Bool, true, false, not, _&&_}
+use mathlib.Core.Path.{_≡_}
+use mathlib.Core.Bool.{true, false}
 use mathlib.Core.List.{List}
 use lib.ListN.{length}
-use lib.Dec.{eqb}
-use borrow.Author.Tests.{ltb-false, eqb-true, not-false}
+use borrow.Author.Tests.{ltb-false}
 use Rattle.format.specs.Packed.{isBeyond}
 use Rattle.format.specs.Blocks.{midBit, codingOf, sizeOf, fromBlock}
 use Rattle.format.specs.Decoding.{checkBlock, checkGroup}
 use Rattle.format.specs.declared.refusals.Checked.the-variants.{Fine}
 use Rattle.format.specs.declared.settings.SampleFormat.{SampleFormat}
 use Rattle.format.specs.declared.answers.Fields.{Fields}
+use Rattle.laws.proofs.Tests.{asks-two}
 use Rattle.laws.proofs.Checks.{passed, first-fine, others-fine, order-fine}
 
 module _ (h : Fields) (f : SampleFormat) (c : ℕ) (r : List ℕ) (fine : checkBlock h f c r ≡ Fine) where
@@ -36,4 +36,4 @@ module _ (h : Fields) (f : SampleFormat) (bs : List ℕ) (fine : checkGroup h f 
   unfolding checkBlock fromBlock
   mid-two some m =
       let e = passed _ _ (first-fine _ _ (others-fine _ _ (others-fine _ _ (others-fine _ _ (block-fine 0 some))))) in
-      eqb-true (h .channels) 2 (not-false _ (subst (λ (b : Bool). (b && not (eqb (h .channels) 2)) ≡ false) m e))
+      asks-two (midBit bs) (h .channels) e m

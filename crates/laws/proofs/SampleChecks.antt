@@ -2,7 +2,7 @@
 -- depth holds, and no more frames than 32 bits count.
 use Prim.Native.Nat.{ℕ, _*_, _/_, _%_, _≤_, _<_}
 use mathlib.Core.Path.{_≡_, refl, sym, ap, _∙_, fun-ext}
-use mathlib.Core.Bool.{Bool, true}
+use mathlib.Core.Bool.{Bool, true, false}
 use mathlib.Core.List.{List, [], _∷_}
 use mathlib.Core.Logic.{⊎-elim}
 use native.Mathlib.Omega.{arith}
@@ -15,13 +15,15 @@ use Rattle.format.specs.Lists.{every, isIn}
 use Rattle.format.specs.Units.{bitsIn, within, isDepth, depthOf, depthWord}
 use Rattle.format.specs.Encoding.{checkSpec, checkEncoder, checkSamples}
 use Rattle.format.specs.Reencoding.{checkReencoder}
+use Rattle.format.specs.Refusals.{number}
 use Rattle.format.specs.declared.units.Depth.{Depth}
 use Rattle.format.specs.declared.units.Depth.the-variants.{Eight, Sixteen, TwentyFour, ThirtyTwo}
 use Rattle.format.specs.declared.refusals.Checked.the-variants.{Fine}
+use Rattle.format.specs.declared.refusals.Refusal.{Refusal}
 use Rattle.format.specs.declared.settings.PcmSpec.{PcmSpec}
 use Rattle.format.proofs.UnitLaws.{depth-bits, within-holds}
 use Rattle.laws.proofs.Tests.{and-left, and-right, either}
-use Rattle.laws.proofs.Checks.{first-fine, others-fine, passed}
+use Rattle.laws.proofs.Checks.{first-fine, others-fine, passed, Unsaid, unsaid, _nor_}
 use Rattle.laws.proofs.Signs.{AllHold, every-holds}
 
 -- ---- 30: what a writer that takes up to `most` channels is given
@@ -101,3 +103,13 @@ module _ (p : PcmSpec) (s : List ℤ) (ok : checkSamples p s ≡ Fine) where
   pub count-ok : length s / p .channels < 4294967296
   unfolding checkSamples
   count-ok = let z = ltb-false 4294967295 (length s / p .channels) (passed _ _ (others-fine _ _ (others-fine _ _ ok))) in omega arith
+
+-- ---- they refuse by no other number
+module _ (x : Refusal) where
+  pub spec-unsaid : eqb 30 (number x) ≡ false → (most : ℕ) (depths : List ℕ) (p : PcmSpec) → Unsaid x (checkSpec most depths p)
+  unfolding checkSpec
+  spec-unsaid e most depths p = unsaid x _ _ e nor unsaid x _ _ e nor unsaid x _ _ e nor unsaid x _ _ e
+
+  pub samples-unsaid : eqb 31 (number x) ≡ false → eqb 32 (number x) ≡ false → eqb 33 (number x) ≡ false → (p : PcmSpec) (s : List ℤ) → Unsaid x (checkSamples p s)
+  unfolding checkSamples
+  samples-unsaid e f g p s = unsaid x _ _ e nor unsaid x _ _ f nor unsaid x _ _ g

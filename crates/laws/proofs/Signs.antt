@@ -110,6 +110,14 @@ holds-by b c false l h e = omega (arith, ltb-false c (2 ^ (b - 1)) e, twice b l)
 pub value-holds : (b c : ℕ) → 1 ≤ b → c < 2 ^ b → Holds b (value b c)
 value-holds b c l h = subst (Holds b) (sym (value-is b c h)) (holds-by b c (ltb c (2 ^ (b - 1))) l h refl)
 
+-- what is read at a width is held by it
+pub values-hold : (b : ℕ) (s : List ℕ) → 1 ≤ b → AllHold b (values b s)
+unfolding values
+values-hold b s l i =
+    let vs = map (value b) (codesIn b s) in
+    let e : getD vs i (pos 0) ≡ value b (getD (codesIn b s) i 0) = ap (getD vs i) (sym (value-pos b 0 (pow-pos (b - 1)))) ∙ List·getD-map (value b) (codesIn b s) i 0 in
+    rw e (value-holds b (getD (codesIn b s) i 0) l (codes-low b s i))
+
 pub holds-every : (b : ℕ) (vs : List ℤ) → AllHold b vs → every (holds b) vs ≡ true
 unfolding every
 holds-every b [] h = refl

@@ -9,21 +9,22 @@ use lib.Seq.{length-take-le}
 use lib.IntN.{ℤ}
 use lib.Dec.{eqb}
 use borrow.Author.Tests.{le-ltb, ltb-false, ne-eqb, eqb-true, eqb-false, not-false}
-use Rattle.format.specs.Lists.{from, joined, every}
-use Rattle.format.specs.Numbers.{numAt, codeOf, holds}
+use Rattle.format.specs.Lists.{from, joined}
+use Rattle.format.specs.Numbers.{numAt, codeOf}
 use Rattle.format.specs.Packed.{widthOf, packing, isBeyond}
 use Rattle.format.specs.declared.packed.Coding.{Coding}
 use Rattle.format.specs.declared.packed.Coding.the-variants.{Differences, Raw, Beyond}
 use Rattle.format.specs.Blocks.{isBlock, midBit, codingOf, sizeOf, fromBlock}
 use Rattle.format.specs.Encoding.{unwoven, firstValue, midSide, parity}
 use Rattle.format.specs.Reencoding.{valuesFor, baseFor, reencodedBlock, checkReencodeBlock, activeIn, checkReencodeGroup, reencodedGroup}
-use Rattle.format.specs.Refusals.{refuse}
-use Rattle.format.specs.declared.refusals.Refusal.the-variants.{WidthTooSmall}
+use Rattle.format.specs.Fit.{checkFit}
 use Rattle.format.specs.declared.refusals.Checked.the-variants.{Fine}
+use Rattle.laws.proofs.Tests.{asks-two}
 use Rattle.laws.proofs.Parts.{length-from}
 use Rattle.laws.proofs.Checks.{pass, _and-then_, first-fine, others-fine, passed, order-fine}
 use Rattle.laws.proofs.Digits.{length-le}
 use Rattle.laws.proofs.Signs.{AllHold, length-packing, every-holds}
+use Rattle.laws.proofs.Misfits.{fine-fit}
 use Rattle.laws.proofs.Channels.{unwoven-long}
 use Rattle.laws.proofs.Stereo.{both-long}
 
@@ -57,12 +58,12 @@ template-ok depth r xs e =
       flags = omega arith;
       within = passed _ _ (first-fine _ _ e6);
       sized = ltb-false (length r) (sizeOf depth r) (passed _ _ (first-fine _ _ e7));
-      fit = every-holds (widthOf (codingOf depth r)) (valuesFor depth r xs) (not-false _ (passed _ _ e8));
+      fit = every-holds (widthOf (codingOf depth r)) (valuesFor depth r xs) (fine-fit (widthOf (codingOf depth r)) (valuesFor depth r xs) e8);
     }
 
 -- with other samples only 36 is left to refuse
 pub fit-decides : (depth : ℕ) (r : List ℕ) (xs ys : List ℤ) → Template depth r xs
-    → checkReencodeBlock depth r ys ≡ refuse (not (every (holds (widthOf (codingOf depth r))) (valuesFor depth r ys))) WidthTooSmall
+    → checkReencodeBlock depth r ys ≡ checkFit (widthOf (codingOf depth r)) (valuesFor depth r ys)
 unfolding checkReencodeBlock
 fit-decides depth r xs ys ok =
     pass _ _ (le-ltb (length r) 16 (ok .head))
@@ -98,6 +99,23 @@ new-length depth r xs head =
       length-packing (widthOf c) (valuesFor depth r xs),
     )
 
+-- ---- a template's group bs that 34 passed
+module _ (n : ℕ) (bs : List ℕ) (stereo : (midBit bs && not (eqb n 2)) ≡ false) where
+  -- of any k frames z the active samples are k a channel
+  pub actives-long : (k : ℕ) → 1 ≤ n → (z : List ℤ) → length z ≡ n * k → (c : ℕ) → c < n → length (getD (activeIn n bs z) c []) ≡ k
+  unfolding activeIn
+  actives-long k some z l = by (midBit bs) refl
+    where
+      each : (c : ℕ) → c < n → length (getD (unwoven n z) c []) ≡ k
+      each = unwoven-long n k some z l
+
+      two : midBit bs ≡ true → n ≡ 2
+      two = asks-two (midBit bs) n stereo
+
+      by : (t : Bool) → midBit bs ≡ t → (c : ℕ) → c < n → length (getD (cond t (midSide (unwoven n z)) (unwoven n z)) c []) ≡ k
+      by false m c q = each c q
+      by true m c q = both-long (unwoven n z) k (λ d p. each d (omega (arith, two m))) c (omega (arith, two m))
+
 -- ---- a template's group bs that passed with the samples s
 module _ (depth n : ℕ) (bs : List ℕ) (s : List ℤ) (fine : checkReencodeGroup depth n bs s ≡ Fine) where
   -- what begins with the template's block of channel c
@@ -122,7 +140,7 @@ module _ (depth n : ℕ) (bs : List ℕ) (s : List ℤ) (fine : checkReencodeGro
   parity-ok = passed _ _ (first-fine _ _ (others-fine _ _ (others-fine _ _ fine)))
 
   pub two-ok : midBit bs ≡ true → n ≡ 2
-  two-ok m = eqb-true n 2 (not-false _ (subst (λ (b : Bool). (b && not (eqb n 2)) ≡ false) m stereo-ok))
+  two-ok = asks-two (midBit bs) n stereo-ok
 
   pub even-ok : midBit bs ≡ true → parity (unwoven n s) ≡ true
   even-ok m = not-false _ (subst (λ (b : Bool). (b && not (parity (unwoven n s))) ≡ false) m parity-ok)
@@ -148,15 +166,7 @@ module _ (depth n : ℕ) (bs : List ℕ) (s : List ℤ) (fine : checkReencodeGro
 
   -- of any k frames z they are k a channel
   pub active-long : (k : ℕ) → 1 ≤ n → (z : List ℤ) → length z ≡ n * k → (c : ℕ) → c < n → length (getD (activeIn n bs z) c []) ≡ k
-  unfolding activeIn
-  active-long k some z l = by (midBit bs) refl
-    where
-      each : (c : ℕ) → c < n → length (getD (unwoven n z) c []) ≡ k
-      each = unwoven-long n k some z l
-
-      by : (t : Bool) → midBit bs ≡ t → (c : ℕ) → c < n → length (getD (cond t (midSide (unwoven n z)) (unwoven n z)) c []) ≡ k
-      by false m c q = each c q
-      by true m c q = both-long (unwoven n z) k (λ d p. each d (omega (arith, two-ok m))) c (omega (arith, two-ok m))
+  active-long = actives-long n bs stereo-ok
 
   -- ---- the new blocks are as long as the template's
   abbrev B : ℕ → List ℕ

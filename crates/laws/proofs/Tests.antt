@@ -1,9 +1,11 @@
 -- Tests by cases: what `_&&_` and `_||_` say of the two tests that they join.
 use Prim.Native.Nat.{ℕ}
-use mathlib.Core.Path.{_≡_, refl}
-use mathlib.Core.Bool.{Bool, true, false, _&&_, _||_}
+use mathlib.Core.Path.{_≡_, refl, sym}
+use mathlib.Core.Bool.{Bool, true, false, not, _&&_, _||_}
 use mathlib.Core.Logic.{_⊎_, inl, inr}
 use native.Mathlib.Omega.{arith}
+use lib.Dec.{eqb}
+use borrow.Author.Tests.{eqb-true, not-false}
 
 -- no test both holds and does not
 pub never : {A : Type 0} → true ≡ false → A
@@ -22,6 +24,11 @@ and-right false b e = let z : false ≡ true = e in cc
 pub and-no : (a b : Bool) → b ≡ false → (a && b) ≡ false
 and-no true b e = e
 and-no false b e = refl
+
+-- what is refused without two is two
+pub asks-two : (b : Bool) (n : ℕ) → (b && not (eqb n 2)) ≡ false → b ≡ true → n ≡ 2
+asks-two true n e h = eqb-true n 2 (not-false _ e)
+asks-two false n e h = never (sym h)
 
 -- one of them holds; none does
 pub either : (a b : Bool) → (a || b) ≡ true → (a ≡ true) ⊎ (b ≡ true)

@@ -1,7 +1,7 @@
 -- What is packed where the width holds all, and what stays where it does not: k is what the check says.
 use Prim.Native.Nat.{ℕ, _*_}
-use mathlib.Core.Path.{_≡_, refl, sym, _∙_}
-use mathlib.Core.Bool.{Bool, true, false, not}
+use mathlib.Core.Path.{_≡_, sym, _∙_}
+use mathlib.Core.Bool.{true}
 use mathlib.Core.List.{List, [], append-nil}
 use native.Mathlib.Omega.{arith}
 use lib.IntN.{ℤ}
@@ -10,17 +10,12 @@ use Rattle.format.specs.Lists.{every, over}
 use Rattle.format.specs.Numbers.{holds}
 use Rattle.format.specs.Packed.{packing}
 use Rattle.format.specs.Answers.{filled}
+use Rattle.format.specs.Fit.{checkFit}
 use Rattle.format.specs.declared.refusals.Refusal.{Refusal}
-use Rattle.format.specs.declared.refusals.Refusal.the-variants.{WidthTooSmall}
 use Rattle.format.specs.declared.refusals.Checked.{Checked}
 use Rattle.format.specs.declared.refusals.Checked.the-variants.{Fine, No}
-use Rattle.laws.proofs.Checks.{passed}
 use Rattle.laws.proofs.Signs.{length-packing}
-use Rattle.packing.specs.Fit.{checkFit}
-
-not-false : (t : Bool) → not t ≡ false → t ≡ true
-not-false true e = refl
-not-false false e = cc
+use Rattle.laws.proofs.Misfits.{fine-fit}
 
 module _ (b : ℕ) (vs : List ℤ) (k : Checked) (says : k ≡ checkFit b vs) where
   pub unfit : (r : Refusal) → k ≡ No r → No r ≡ checkFit b vs
@@ -34,8 +29,7 @@ module _ (b : ℕ) (vs : List ℤ) (k : Checked) (says : k ≡ checkFit b vs) wh
     fit = sym fine ∙ says
 
     pub all-hold : every (holds b) vs ≡ true
-    unfolding checkFit
-    all-hold = not-false (every (holds b) vs) (passed (not (every (holds b) vs)) WidthTooSmall (sym fit))
+    all-hold = fine-fit b vs (sym fit)
 
     pub all-filled : (s after : List ℕ) → length s ≡ 64 * b → after ≡ packing b vs → after ≡ filled (checkFit b vs) (packing b vs) s
     unfolding over

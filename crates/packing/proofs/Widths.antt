@@ -1,8 +1,8 @@
 -- The bits of all folded values in one number: a width holds all values where it holds that number, so one test tells
 -- what 512 would.
-use Prim.Native.Nat.{ℕ, _+_, _-_, _^_, _<_, _≤_}
+use Prim.Native.Nat.{ℕ, suc, _+_, _-_, _^_, _<_, _≤_}
 use mathlib.Core.Path.{_≡_, refl, sym, ap, _∙_}
-use mathlib.Core.Bool.{Bool, true, false, not, _&&_, and-true, and-assoc}
+use mathlib.Core.Bool.{Bool, true, false, not, _&&_, cond, and-true, and-assoc}
 use mathlib.Core.List.{List}
 use native.Mathlib.Omega.{arith}
 use lib.Dec.{ltb}
@@ -15,15 +15,16 @@ use mir.Syntax.{w32}
 use mir.Val.{SFits, toZ, ofZ}
 use mir.ValLaws.{toZ-ofZ}
 use borrow.Author.Tests.{ltb-true, ltb-false, lt-ltb, le-ltb}
-use Rattle.format.specs.Lists.{every}
+use Rattle.format.specs.Lists.{every, firstNot}
 use Rattle.format.specs.Numbers.{holds}
 use Rattle.format.specs.Refusals.{refuse}
+use Rattle.format.specs.Fit.{misfit, checkFit}
 use Rattle.format.specs.declared.refusals.Refusal.the-variants.{WidthTooSmall}
 use Rattle.format.specs.declared.refusals.Checked.the-variants.{Fine, No}
 use Rattle.laws.proofs.Tests.{never}
 use Rattle.laws.proofs.Parts.{left-now}
 use Rattle.laws.proofs.Widths.{StandsFor}
-use Rattle.packing.specs.Fit.{checkFit}
+use Rattle.laws.proofs.Misfits.{fit-fine, first-now}
 
 -- `mag` by the bits
 pub mag-neg : (x : ℤ) → SFits w32 x → ltZ (toZ w32 (ofZ w32 x)) (pos 0) ≡ true → 4294967295 - ofZ w32 x ≡ mag x
@@ -33,6 +34,10 @@ mag-neg (negsuc n) f t = omega (arith, f .sfits)
 pub mag-pos : (x : ℤ) → SFits w32 x → ltZ (toZ w32 (ofZ w32 x)) (pos 0) ≡ false → ofZ w32 x ≡ mag x
 mag-pos (pos n) f t = refl
 mag-pos (negsuc n) f t = never (rw (toZ-ofZ w32 (negsuc n) f) at t)
+
+-- of a value that is read
+pub mag-read : (x : ℤ) {n : ℕ} → SFits w32 x → n ≡ mag (toZ w32 (ofZ w32 x)) → n ≡ mag x
+mag-read x f e = e ∙ ap mag (toZ-ofZ w32 x f)
 
 -- k bits hold two numbers where they hold the bits of both
 or-below : (k m f : ℕ) → ltb (bitOr m f) (2 ^ k) ≡ (ltb m (2 ^ k) && ltb f (2 ^ k))
@@ -72,6 +77,26 @@ module _ (vs : List ℤ) where
   so-far-all m i h p b =
       sym (p b) ∙ ap (λ (l : List ℤ). holds b (pos m) && every (holds b) l) (drop-of-length-le vs h) ∙ and-true (holds b (pos m))
 
+-- the first value that b bits do not hold is that of the values from i on
+module _ (vs : List ℤ) (b : ℕ) where
+  abbrev pub FromHere : ℕ → Type 0
+  FromHere i = i + misfit b (drop i vs) ≡ misfit b vs
+
+  module _ (i f p : ℕ) (inside : i < length vs) (is : f ≡ mag (getD vs i (pos 0))) (power : p ≡ 2 ^ (b - 1)) (so : FromHere i) where
+    now : (t : Bool) → holds b (getD vs i (pos 0)) ≡ t → misfit b (drop i vs) ≡ cond t (suc (misfit b (drop (i + 1) vs))) 0
+    unfolding misfit
+    now t e = first-now (holds b) (pos 0) vs i inside ∙ ap (λ (u : Bool). cond u (suc (misfit b (drop (i + 1) vs))) 0) e
+
+    pub here-next : f < p → FromHere (i + 1)
+    here-next h = let e = now true (lt-ltb (mag (getD vs i (pos 0))) (2 ^ (b - 1)) (omega arith)) in omega arith
+
+    pub here-found : p ≤ f → i ≡ misfit b vs
+    here-found h = let e = now false (le-ltb (mag (getD vs i (pos 0))) (2 ^ (b - 1)) (omega arith)) in omega arith
+
+  pub here-none : (i : ℕ) → length vs ≤ i → FromHere i → i ≡ misfit b vs
+  unfolding misfit firstNot
+  here-none i h so = let e : misfit b (drop i vs) ≡ 0 = ap (misfit b) (drop-of-length-le vs h) in omega arith
+
 -- ---- p is the power of the width b
 module _ (vs : List ℤ) (m b p : ℕ) (all : StandsFor m vs) (power : p ≡ 2 ^ (b - 1)) where
   holds-all : m < p → every (holds b) vs ≡ true
@@ -81,9 +106,8 @@ module _ (vs : List ℤ) (m b p : ℕ) (all : StandsFor m vs) (power : p ≡ 2 ^
   holds-some h = all b ∙ le-ltb m (2 ^ (b - 1)) (omega arith)
 
   pub fits-all : m < p → Fine ≡ checkFit b vs
-  unfolding checkFit refuse
-  fits-all h = ap (λ (t : Bool). refuse (not t) WidthTooSmall) (sym (holds-all h))
+  fits-all h = sym (fit-fine b vs (holds-all h))
 
-  pub fits-not : p ≤ m → No WidthTooSmall ≡ checkFit b vs
+  pub fits-not : p ≤ m → (k : ℕ) → k ≡ misfit b vs → No (WidthTooSmall k) ≡ checkFit b vs
   unfolding checkFit refuse
-  fits-not h = ap (λ (t : Bool). refuse (not t) WidthTooSmall) (sym (holds-some h))
+  fits-not h k e = rw (e, holds-some h)

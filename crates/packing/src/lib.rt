@@ -8,15 +8,16 @@ ghost use mathlib.Core.Path.{_≡_};
 ghost use Prim.Native.Nat.{ℕ, _<_, _≤_, _^_};
 ghost use mathlib.Core.Bool.{true};
 ghost use lib.IntN.{pos};
+ghost use lib.ListN.{length};
 ghost use lib.Signed.{mag};
 ghost use Rattle.format.specs.Lists.{every};
 ghost use Rattle.format.specs.Numbers.{codeOf, holds};
 ghost use Rattle.format.specs.Packed.{packing};
 ghost use Rattle.format.specs.Answers.{filled};
+ghost use Rattle.format.specs.Fit.{misfit, checkFit};
 ghost use Rattle.format.specs.Encoding.{differences, leastWidth};
 ghost use Rattle.bits.specs.Place.{WholeRun, Room};
 ghost use Rattle.packing.specs.Place.{Open, CodePut, origin, end};
-ghost use Rattle.packing.specs.Fit.{checkFit};
 
 // The twin of the reading cursor: bits that wait to be written, how many, and where the next four bytes go.
 struct PutCursor {
@@ -74,8 +75,10 @@ fn folded(x: i32) -> u32
 
 // The bits of all folded values in one number, which stands for the values: b bits hold them where they hold it. A
 // maximum would do as well, by more instructions on x86-64.
-fn folded_bits(values: [i32; 512]) -> u32
-    ensures { λ r. ⌜ (r < 2 ^ 31) × ((b : ℕ) → every (holds b) values ≡ holds b (pos r)) ⌝ }
+// The values are lent, since `check_fit` may ask for them again: given, they would be copied for that.
+fn folded_bits(values: &[i32]) -> u32
+    requires { ⌜ length (now values) ≡ 512 ⌝ }
+    ensures { λ r. ⌜ (r < 2 ^ 31) × ((b : ℕ) → every (holds b) (now (values .entry)) ≡ holds b (pos r)) ⌝ }
 {
     let mut m: u32 = 0;
     for i in 0..Depth::SAMPLES_PER_BLOCK {
@@ -90,7 +93,7 @@ fn folded_bits(values: [i32; 512]) -> u32
 pub fn width(values: [i32; 512]) -> u32
     ensures { λ r. ⌜ r ≡ leastWidth values ⌝ }
 {
-    let b = 33 - u32::leading_zeros(folded_bits(values));
+    let b = 33 - u32::leading_zeros(folded_bits(&values));
     if b < 2 { 2 } else { b }
 }
 
@@ -105,15 +108,30 @@ pub fn deltas(values: [i32; 512]) -> [i32; 512]
     out
 }
 
-// The refusal of values for a width. 36: a value or difference does not fit it.
+// The place of the first value that so many bits do not hold; 512 where they hold all.
+fn first_misfit(values: &[i32], bits: u32) -> u16
+    requires { ⌜ (length (now values) ≡ 512) × (1 ≤ bits) × (bits ≤ 32) ⌝ }
+    ensures { λ r. ⌜ r ≡ misfit bits (now (values .entry)) ⌝ }
+{
+    let p = pow2(bits - 1);
+    for i in 0..Depth::SAMPLES_PER_BLOCK {
+        if p <= folded(values[i]) as u64 {
+            return i as u16;
+        }
+    }
+    512
+}
+
+// The refusal of values for a width. 36: a value or difference does not fit it; the place of the first such is looked
+// for only then.
 pub fn check_fit(values: [i32; 512], bits: u32) -> Checked
     requires { ⌜ (1 ≤ bits) × (bits ≤ 32) ⌝ }
     ensures { λ r. ⌜ r ≡ checkFit bits values ⌝ }
 {
-    if (folded_bits(values) as u64) < pow2(bits - 1) {
+    if (folded_bits(&values) as u64) < pow2(bits - 1) {
         return Checked::Fine;
     }
-    Checked::No(Refusal::WidthTooSmall)
+    Checked::No(Refusal::WidthTooSmall(first_misfit(&values, bits)))
 }
 
 // Fills the run with the codes of all values, which the width holds.
@@ -127,8 +145,8 @@ fn put_all(values: [i32; 512], bits: u32, run: &mut [u8])
     }
 }
 
-// Packs 512 values into a run of 64 * bits bytes. 36: a value or difference does not fit the width, and the run stays
-// as it was.
+// Packs 512 values into a run of 64 * bits bytes. 36, with its place: a value or difference does not fit the width, and
+// the run stays as it was.
 pub fn pack(values: [i32; 512], bits: u32, run: &mut [u8]) -> Checked
     requires { ⌜ WholeRun (now run) bits ⌝ }
     ensures { λ r. ⌜ (let fit = checkFit bits values in

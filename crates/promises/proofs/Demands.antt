@@ -14,11 +14,11 @@ use Rattle.format.specs.Answers.{answeredBy, refusedBy, answered, read, wrote}
 use Rattle.format.specs.Opening.{headerOf, openOf}
 use Rattle.format.specs.Decoding.{checkDecode, decodedOf}
 use Rattle.format.specs.Encoding.{encodedFile, checkEncoder, checkSamples, checkEncodeInto, encodeOf}
-use Rattle.format.specs.Reencoding.{reencodedFile}
+use Rattle.format.specs.Reencoding.{reencodedFile, checkReencodeInto, reencodeOf}
 use Rattle.format.specs.Promises.{Opens, Decodes, Encodes, Reencodes}
 use Rattle.format.specs.declared.refusals.Checked.{Checked}
 use Rattle.format.specs.declared.refusals.Checked.the-variants.{Fine}
-use Rattle.format.specs.declared.refusals.Refusal.the-variants.{ParityDiffers}
+use Rattle.format.specs.declared.refusals.Refusal.the-variants.{ParityDiffers, WidthTooSmall}
 use Rattle.format.specs.declared.settings.PcmSpec.{PcmSpec}
 use Rattle.format.specs.declared.settings.StereoMode.{StereoMode}
 use Rattle.format.specs.declared.settings.StereoMode.the-variants.{MidSide}
@@ -32,6 +32,7 @@ use Rattle.promises.proofs.Refile as Refile
 use Rattle.promises.proofs.Again.{says-same, leaves-same}
 use Rattle.promises.proofs.Files.{encode-ok, file-written, reencode-ok, new-file, template-written}
 use Rattle.promises.proofs.ParityLaws.{Some, oddFrame, parity-so, so-parity}
+use Rattle.promises.proofs.Misfits.{Misfit, misfit-so, so-misfit}
 
 -- a rate is a number of 32 bits, as its type says
 abbrev pub Rate32 : PcmSpec → Type 0
@@ -127,3 +128,15 @@ templates-decode p s t lent file n e =
       λ r o. o ∙ ap (λ (c : Checked). answered c (Opened (headerOf t))) (first-fine _ _ fine),
       λ out after r room d. decodes-to t (decodedOf t) out after r fine refl (omega arith) d .0 ∙ ap read long,
     )
+
+-- ---- 11. WHICH VALUE DID NOT FIT
+
+-- re-encoding refuses 36 with the place k exactly when, in the order group, channel, place, the first value that its
+-- block's width does not hold is at k, and nothing is refused before it
+pub misfit-exactly : (p : PcmSpec) (s : List ℤ) (t lent after : List ℕ) (k : ℕ) (r : Answer)
+    → Reencodes p s t lent r after
+    → Exactly (r ≡ refusedBy (WidthTooSmall k)) (Misfit p s t k)
+unfolding reencodeOf
+misfit-exactly p s t lent after k r e =
+    let q = exactly-no (checkReencodeInto p s t (length lent)) (Wrote (length t)) refl (WidthTooSmall k) r (e .0) in
+    (λ x. misfit-so p s t k (length lent) (q .0 x), λ m. q .1 (so-misfit p s t k (length lent) m))

@@ -1,18 +1,17 @@
 -- A template's block with its own samples is the template's block: they give the base and the values that it has.
 use Prim.Native.Nat.{ℕ, zero, suc, _+_, _-_, _*_, _^_, _≤_, _<_, min}
-use mathlib.Core.Path.{_≡_, refl, sym, ap, ap₂, _∙_, subst}
+use mathlib.Core.Path.{_≡_, refl, ap, ap₂, _∙_, subst}
 use mathlib.Core.Bool.{false}
-use mathlib.Core.List.{List, [], _∷_, _++_, map}
+use mathlib.Core.List.{List, [], _∷_, _++_}
 use native.Mathlib.Omega.{arith}
-use lib.ListN.{length, getD, take, drop, take-append-drop, length-drop, List·getD-map}
+use lib.ListN.{length, take, drop, take-append-drop, length-drop}
 use lib.Seq.{length-take-le}
-use lib.IntN.{ℤ, pos}
-use lib.Pow.{pow-pos}
+use lib.IntN.{ℤ}
 use mir.Syntax.{w32}
 use mir.Val.{SFits}
 use Rattle.format.specs.Lists.{from}
-use Rattle.format.specs.Numbers.{num, Below, le, numAt, value, codeOf}
-use Rattle.format.specs.Packed.{widthOf, codesIn, values, packing, rebuilt, isBeyond}
+use Rattle.format.specs.Numbers.{num, Below, le, numAt, codeOf}
+use Rattle.format.specs.Packed.{widthOf, values, packing, rebuilt, isBeyond}
 use Rattle.format.specs.declared.packed.Coding.{Coding}
 use Rattle.format.specs.declared.packed.Coding.the-variants.{Differences, Raw, Beyond}
 use Rattle.format.specs.Blocks.{baseOf, bitsOf, codingOf, sizeOf, decoded, samplesOf}
@@ -21,21 +20,14 @@ use Rattle.format.specs.Reencoding.{newValues, valuesFor, baseFor, reencodedBlo
 use Rattle.laws.proofs.Lengths.{length-values}
 use Rattle.laws.proofs.Tests.{never}
 use Rattle.laws.proofs.Parts.{length-from, meet}
-use Rattle.laws.proofs.Digits.{num-lt, le-num, codes-low}
-use Rattle.laws.proofs.Signs.{AllHold, code-value, value-pos, value-holds, packing-values}
+use Rattle.laws.proofs.Digits.{num-lt, le-num}
+use Rattle.laws.proofs.Signs.{code-value, values-hold, packing-values}
 use Rattle.laws.proofs.Wrap.{Fit, differences-rebuilt}
 use Rattle.laws.proofs.Templates.{Template}
 use Rattle.laws.proofs.Widths.{width-some, width-most}
 use Rattle.promises.proofs.BlockLaws.{fit}
 use Rattle.promises.proofs.NewBlocks.{value-fits, new-raw, new-differences, rebuilt-fit}
 use Rattle.promises.proofs.Bytes.{below-from}
-
-values-hold : (b : ℕ) (s : List ℕ) → 1 ≤ b → AllHold b (values b s)
-unfolding values
-values-hold b s l i =
-    let vs = map (value b) (codesIn b s) in
-    let e : getD vs i (pos 0) ≡ value b (getD (codesIn b s) i 0) = ap (getD vs i) (sym (value-pos b 0 (pow-pos (b - 1)))) ∙ List·getD-map (value b) (codesIn b s) i 0 in
-    rw e (value-holds b (getD (codesIn b s) i 0) l (codes-low b s i))
 
 values-fit : (b : ℕ) (s : List ℕ) → 1 ≤ b → b ≤ 32 → Fit (values b s)
 values-fit b s l u = fit b u (values b s) (values-hold b s l)

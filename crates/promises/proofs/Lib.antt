@@ -26,6 +26,7 @@ pub mod Kept
 pub mod NewGroups
 pub mod Refile
 pub mod Again
--- parity; the walk
+-- parity; what did not fit; the walk
 pub mod ParityLaws
+pub mod Misfits
 pub mod WalkLaws

@@ -2,7 +2,7 @@
 -- to the template's next sample, and those after it stay.
 use Prim.Native.Nat.{ℕ, zero, suc, _+_, _-_, _*_, _≤_, _<_, min}
 use mathlib.Core.Path.{_≡_, refl, sym, ap, ap₂, _∙_, subst}
-use mathlib.Core.Bool.{Bool, true, false, cond, not}
+use mathlib.Core.Bool.{Bool, true, false, cond}
 use mathlib.Core.List.{List, [], _∷_, _++_, append-nil, append-assoc}
 use mathlib.Core.Logic.{⊎-elim}
 use native.Mathlib.Omega.{arith}
@@ -13,16 +13,15 @@ use lib.Dec.{ltb}
 use mir.Syntax.{w32}
 use mir.Val.{SFits}
 use borrow.Author.Tests.{ltb-true, ltb-false}
-use Rattle.format.specs.Lists.{from, every, same}
-use Rattle.format.specs.Numbers.{num, numAt, value, codeOf, holds, plus}
+use Rattle.format.specs.Lists.{from, same}
+use Rattle.format.specs.Numbers.{num, numAt, value, codeOf, plus}
 use Rattle.format.specs.Packed.{coding, widthOf, values, packing, rebuilt, isBeyond}
 use Rattle.format.specs.declared.packed.Coding.{Coding}
 use Rattle.format.specs.declared.packed.Coding.the-variants.{Differences, Raw, Beyond}
 use Rattle.format.specs.Blocks.{blockMark, isBlock, baseOf, bitsOf, codingOf, sizeOf, decoded, samplesOf}
-use Rattle.format.specs.Refusals.{refuse}
+use Rattle.format.specs.Fit.{checkFit}
 use Rattle.format.specs.Encoding.{differences, firstValue}
 use Rattle.format.specs.Reencoding.{newValues, valuesFor, baseFor, reencodedBlock, checkReencodeBlock}
-use Rattle.format.specs.declared.refusals.Refusal.the-variants.{WidthTooSmall}
 use Rattle.laws.proofs.Lengths.{length-values, length-rebuilt}
 use Rattle.laws.proofs.Tests.{never}
 use Rattle.laws.proofs.Parts.{below-suc, drop-behind, from-skip, from-within, from-front, from-from, length-from}
@@ -161,7 +160,7 @@ base-again Beyond u r xs ys e = e
 -- what is packed anew, read with what was coded so
 module _ (base : ℤ) (run t : List ℕ) where
   -- as many differences are new as samples, but for the last
-  new-some : (b : ℕ) (xs : List ℤ) → length xs ≤ 512 → let m = min (length xs) 511 in length (take m (differences (xs ++ drop (length xs) (rebuilt base (values b (take (64 * b) run)))))) ≡ m
+  pub new-some : (b : ℕ) (xs : List ℤ) → length xs ≤ 512 → let m = min (length xs) 511 in length (take m (differences (xs ++ drop (length xs) (rebuilt base (values b (take (64 * b) run)))))) ≡ m
   new-some b xs lx =
       let vs = values b (take (64 * b) run) in
       let old = rebuilt base vs in
@@ -329,5 +328,5 @@ module _ (depth : ℕ) (low : 1 ≤ depth) (r : List ℕ) (xs : List ℤ) (some 
     pub check-same : (zs : List ℤ) → length zs ≡ length xs → checkReencodeBlock depth again zs ≡ checkReencodeBlock depth r zs
     check-same zs q =
         fit-decides depth again xs zs new-template
-        ∙ ap₂ (λ (k : Coding) (vs : List ℤ). refuse (not (every (holds (widthOf k)) vs)) WidthTooSmall) (coding-same t) (values-same zs q)
+        ∙ ap₂ (λ (k : Coding) (vs : List ℤ). checkFit (widthOf k) vs) (coding-same t) (values-same zs q)
         ∙ sym (fit-decides depth r xs zs ok)

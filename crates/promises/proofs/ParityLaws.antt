@@ -15,7 +15,7 @@ use Rattle.format.specs.Lists.{from, pairwise, every, anyBelow}
 use Rattle.format.specs.Header.{groupsOf}
 use Rattle.format.specs.Refusals.{number, refuse, _then_}
 use Rattle.format.specs.Units.{active}
-use Rattle.format.specs.Encoding.{equalParity, parity, unwoven, groupIn, checkSpec, checkEncoder, checkSamples, isMidSide, checkStereo, checkSize, checkEncode, checkEncodeInto}
+use Rattle.format.specs.Encoding.{equalParity, parity, unwoven, groupIn, checkEncoder, checkSamples, isMidSide, checkStereo, checkSize, checkEncode, checkEncodeInto}
 use Rattle.format.specs.declared.units.Frames.{Frames}
 use Rattle.format.specs.declared.settings.PcmSpec.{PcmSpec}
 use Rattle.format.specs.declared.settings.StereoMode.{StereoMode}
@@ -25,8 +25,8 @@ use Rattle.format.specs.declared.refusals.Checked.the-variants.{Fine, No}
 use Rattle.format.specs.declared.refusals.Refusal.{Refusal}
 use Rattle.format.specs.declared.refusals.Refusal.the-variants.{NotStereo, ParityDiffers, OutputTooShort}
 use Rattle.laws.proofs.Tests.{never, either}
-use Rattle.laws.proofs.Checks.{_and-then_, first-fine, others-fine, Unsaid, unsaid, _nor_, said-after, said-before, found-below}
-use Rattle.laws.proofs.SampleChecks.{frames-ok}
+use Rattle.laws.proofs.Checks.{_and-then_, first-fine, others-fine, Unsaid, unsaid, said-after, said-before, found-below}
+use Rattle.laws.proofs.SampleChecks.{frames-ok, spec-unsaid, samples-unsaid}
 use Rattle.laws.proofs.Halves.{even-at}
 use Rattle.laws.proofs.Channels.{unwoven-at, unwoven-long, group-length}
 
@@ -170,13 +170,12 @@ module _ (x : Refusal) (e : number x ≡ 35) where
   other : (r : Refusal) (b : Bool) → eqb (number r) 35 ≡ false → Unsaid x (refuse b r)
   other r b differ = unsaid x r b (ap (eqb (number r)) e ∙ differ)
 
-  spec-unsaid : (p : PcmSpec) → Unsaid x (checkEncoder p)
-  unfolding checkEncoder checkSpec
-  spec-unsaid p = other _ _ refl nor other _ _ refl nor other _ _ refl nor other _ _ refl
+  encoder-unsaid : (p : PcmSpec) → Unsaid x (checkEncoder p)
+  unfolding checkEncoder
+  encoder-unsaid p = spec-unsaid x (ap (eqb 30) e) _ _ p
 
-  samples-unsaid : (p : PcmSpec) (s : List ℤ) → Unsaid x (checkSamples p s)
-  unfolding checkSamples
-  samples-unsaid p s = other _ _ refl nor other _ _ refl nor other _ _ refl
+  given-unsaid : (p : PcmSpec) (s : List ℤ) → Unsaid x (checkSamples p s)
+  given-unsaid = samples-unsaid x (ap (eqb 31) e) (ap (eqb 32) e) (ap (eqb 33) e)
 
   size-unsaid : (p : PcmSpec) (mode : StereoMode) (s : List ℤ) → Unsaid x (checkSize p mode s)
   unfolding checkSize
@@ -200,8 +199,8 @@ module _ (p : PcmSpec) (s : List ℤ) (two : p .channels ≡ 2) (room : ℕ) whe
   unfolding checkEncodeInto checkEncode
   parity-so x e refused =
       let a = said-before x _ _ (room-unsaid x e _) refused in
-      let b = said-after x _ _ (spec-unsaid x e p) a in
-      let c = said-after x _ _ (samples-unsaid x e p s) (b .1) in
+      let b = said-after x _ _ (encoder-unsaid x e p) a in
+      let c = said-after x _ _ (given-unsaid x e p s) (b .1) in
       let d = said-before x _ _ (size-unsaid x e p MidSide s) (c .1) in
       ((b .0) and-then (c .0), refuses-when p s two (whole (c .0)) x d)
 

@@ -1,7 +1,7 @@
 -- A template's block with new samples: its checks at each way out, and its bytes by what its parts' calls ensure.
 use Prim.Native.Nat.{ℕ, zero, suc, _-_, _*_, _<_, _≤_}
 use mathlib.Core.Path.{_≡_, refl, sym, ap, _∙_}
-use mathlib.Core.Bool.{Bool, true, false, not}
+use mathlib.Core.Bool.{Bool, true, false}
 use mathlib.Core.List.{List, [], _∷_, _++_, append-assoc}
 use native.Mathlib.Omega.{arith}
 use lib.IntN.{ℤ, pos}
@@ -19,24 +19,23 @@ use Rattle.format.specs.Packed.{coding, widthOf, isBeyond, packing}
 use Rattle.format.specs.Blocks.{isBlock, bitsOf, codingOf, sizeOf}
 use Rattle.format.specs.Refusals.{refuse, _then_}
 use Rattle.format.specs.Answers.{filled}
+use Rattle.format.specs.Fit.{checkFit}
 use Rattle.format.specs.Encoding.{firstValue}
 use Rattle.format.specs.Reencoding.{valuesFor, baseFor, reencodedBlock, checkReencodeBlock}
 use Rattle.format.specs.declared.packed.Coding.{Coding}
 use Rattle.format.specs.declared.packed.Coding.the-variants.{Differences, Raw, Beyond}
 use Rattle.format.specs.declared.refusals.Checked.{Checked}
 use Rattle.format.specs.declared.refusals.Checked.the-variants.{Fine, No}
-use Rattle.format.specs.declared.refusals.Refusal.the-variants.{TooShort, BitsWord, TemplateFlags, WidthTooSmall}
-use Rattle.laws.proofs.Checks.{pass}
+use Rattle.format.specs.declared.refusals.Refusal.the-variants.{TooShort, BitsWord, TemplateFlags}
 use Rattle.laws.proofs.Parts.{length-from, meet}
 use Rattle.laws.proofs.Digits.{length-le}
-use Rattle.laws.proofs.Signs.{length-packing, holds-every}
+use Rattle.laws.proofs.Signs.{length-packing}
 use Rattle.laws.proofs.Over.{lent-behind, sets-over}
-use Rattle.laws.proofs.Templates.{Template, template-ok, base-4}
+use Rattle.laws.proofs.Templates.{Template, template-ok, fit-decides, base-4}
 use Rattle.laws.proofs.Widths.{width-some, width-most}
 use Rattle.block.specs.Read.{blockHeader, Whole}
 use Rattle.block.specs.declared.BlockHeader.{BlockHeader}
 use Rattle.block.proofs.Headers.{bits-are, coding-is}
-use Rattle.packing.specs.Fit.{checkFit}
 
 -- ---- the checks
 
@@ -57,7 +56,7 @@ module _ (depth : ℕ) (r : List ℕ) (xs : List ℤ) where
       module _ (known-flags : b .flags ≤ 1) (fits : SFits w16 (b .bits)) (k : Coding) (coded : k ≡ coding depth (toZ w16 (ofZ w16 (b .bits)))) where
         -- what is left to check
         others : (refuse (isBeyond k) (BitsWord (bitsOf r)) then refuse (ltb (length r) (sizeOf depth r)) TooShort then checkFit (widthOf k) (valuesFor depth r xs)) ≡ checkReencodeBlock depth r xs
-        unfolding checkReencodeBlock refuse _then_ checkFit
+        unfolding checkReencodeBlock refuse _then_
         others =
             rw (le-ltb (length r) 16 long, ← mark, marked, ← word, ne-eqb w 0 not0, ne-eqb w 1 not1, flags-are, le-ltb 1 (b .flags) known-flags, coding-is depth r b header fits k coded)
 
@@ -137,8 +136,7 @@ module _ (depth : ℕ) (r : List ℕ) (xs : List ℤ) (fine : checkReencodeBlock
   passed-whole some most = record { some = some; most = most; header = told .head; known = told .within; run = told .sized }
 
   passed-fit : checkFit (widthOf (codingOf depth r)) (valuesFor depth r xs) ≡ Fine
-  unfolding checkFit
-  passed-fit = pass _ WidthTooSmall (ap not (holds-every (widthOf (codingOf depth r)) (valuesFor depth r xs) (told .fit)))
+  passed-fit = sym (fit-decides depth r xs xs told) ∙ fine
 
   module _ (b : BlockHeader) (header : b ≡ blockHeader r) (fits : SFits w16 (b .bits)) (k : Coding) (coded : k ≡ coding depth (toZ w16 (ofZ w16 (b .bits)))) where
     is : k ≡ codingOf depth r

@@ -1,6 +1,6 @@
 -- What answers say, case by case; and each way out of the comparison with what was recorded.
 use Prim.Native.Nat.{ℕ, _-_, _*_, _/_, _%_, _^_, _<_, _≤_}
-use mathlib.Core.Path.{_≡_, refl, sym, ap, ap₂, _∙_}
+use mathlib.Core.Path.{_≡_, refl, sym, ap, _∙_}
 use mathlib.Core.Bool.{Bool, false}
 use mathlib.Core.List.{List, [], _∷_}
 use native.Mathlib.Omega.{arith}
@@ -25,7 +25,7 @@ use Rattle.format.specs.declared.answers.Outcome.the-variants.{Opened, Read, Fi
 use Rattle.replay_list.specs.declared.answers.Recorded.{Recorded}
 use Rattle.replay_list.specs.declared.answers.Said.{Said}
 use Rattle.replay_list.specs.Room.{isKept, sumOf}
-use Rattle.replay_list.specs.Said.{saidLength, saidNumber, wordOf, saidRefused, saidSamples, saidBy, refusalOf, saidByHost, isRecorded}
+use Rattle.replay_list.specs.Said.{saidLength, saidNumber, toldBy, saidRefused, saidSamples, saidBy, refusalOf, saidByHost, isRecorded}
 
 -- ---- a bits word: the lowest 16 of its 32 bits
 
@@ -40,54 +40,55 @@ word-bits z {n} f e =
 
 -- ---- a refusal
 
-pub word-says : (r : Refusal) (b : ℤ) (n w : ℕ) → r ≡ BitsWord b → SFits w16 b → n ≡ number r → w ≡ codeOf 16 (toZ w16 (ofZ w16 b)) → saidNumber n w ≡ saidRefused r
-unfolding wordOf
-word-says r b n w e f p q = ap₂ saidNumber p (q ∙ ap (codeOf 16) (toZ-ofZ f) ∙ sym (ap wordOf e))
+pub word-told : (r : Refusal) (b : ℤ) (w : ℕ) → r ≡ BitsWord b → SFits w16 b → w ≡ codeOf 16 (toZ w16 (ofZ w16 b)) → w ≡ toldBy r
+unfolding toldBy
+word-told r b w e f q = q ∙ ap (codeOf 16) (toZ-ofZ f) ∙ sym (ap toldBy e)
 
--- the tags of all refusals but that one
+pub place-told : (r : Refusal) (k : ℕ) → r ≡ WidthTooSmall k → k ≡ toldBy r
+unfolding toldBy
+place-told r k e = sym (ap toldBy e)
+
+-- the tags of all refusals but these two
 abbrev others : List ℕ
-others = 0 ∷ 1 ∷ 2 ∷ 4 ∷ 5 ∷ 6 ∷ 7 ∷ 8 ∷ 9 ∷ 10 ∷ 11 ∷ 12 ∷ 13 ∷ 14 ∷ 15 ∷ 16 ∷ 17 ∷ 18 ∷ 19 ∷ 20 ∷ 21 ∷ 22 ∷ 23 ∷ 24 ∷ 25 ∷ 26 ∷ 27 ∷ 28 ∷ 29 ∷ 30 ∷ 31 ∷ 32 ∷ 33 ∷ 34 ∷ []
+others = 0 ∷ 1 ∷ 2 ∷ 4 ∷ 5 ∷ 6 ∷ 7 ∷ 8 ∷ 9 ∷ 10 ∷ 11 ∷ 12 ∷ 13 ∷ 14 ∷ 15 ∷ 16 ∷ 17 ∷ 18 ∷ 19 ∷ 20 ∷ 21 ∷ 22 ∷ 24 ∷ 25 ∷ 26 ∷ 27 ∷ 28 ∷ 29 ∷ 30 ∷ 31 ∷ 32 ∷ 33 ∷ 34 ∷ []
 
-no-word : (r : Refusal) → OneOf others (tagOf the-type r) → 0 ≡ wordOf r
-unfolding wordOf
-no-word TooShort h = refl
-no-word FileSignature h = refl
-no-word BlockSignature h = refl
-no-word (BitsWord b) h = absurd (miss others 3 tt h)
-no-word ZeroChannels h = refl
-no-word DepthUnknown h = refl
-no-word ZeroRate h = refl
-no-word TableOffset h = refl
-no-word DataOffset h = refl
-no-word TableLength h = refl
-no-word LastEntry h = refl
-no-word DataWithoutFrames h = refl
-no-word FirstEntry h = refl
-no-word EntryBounds h = refl
-no-word FloatDiffers h = refl
-no-word MidSideChannels h = refl
-no-word BytesLeft h = refl
-no-word WriterSpec h = refl
-no-word IncompleteFrame h = refl
-no-word ValueOutside h = refl
-no-word TooManyFrames h = refl
-no-word NotStereo h = refl
-no-word ParityDiffers h = refl
-no-word WidthTooSmall h = refl
-no-word DataTooLarge h = refl
-no-word UnknownMode h = refl
-no-word SampleBytes h = refl
-no-word TemplateDiffers h = refl
-no-word TemplateBounds h = refl
-no-word TemplateOffsets h = refl
-no-word ShortGroup h = refl
-no-word TemplateBits h = refl
-no-word TemplateFlags h = refl
-no-word TemplateBytesLeft h = refl
-no-word OutputTooShort h = refl
-
-pub wordless-says : (r : Refusal) (n : ℕ) → OneOf others (tagOf the-type r) → n ≡ number r → saidNumber n 0 ≡ saidRefused r
-wordless-says r n h p = ap₂ saidNumber p (no-word r h)
+pub nothing-told : (r : Refusal) → OneOf others (tagOf the-type r) → 0 ≡ toldBy r
+unfolding toldBy
+nothing-told TooShort h = refl
+nothing-told FileSignature h = refl
+nothing-told BlockSignature h = refl
+nothing-told (BitsWord b) h = absurd (miss others 3 tt h)
+nothing-told ZeroChannels h = refl
+nothing-told DepthUnknown h = refl
+nothing-told ZeroRate h = refl
+nothing-told TableOffset h = refl
+nothing-told DataOffset h = refl
+nothing-told TableLength h = refl
+nothing-told LastEntry h = refl
+nothing-told DataWithoutFrames h = refl
+nothing-told FirstEntry h = refl
+nothing-told EntryBounds h = refl
+nothing-told FloatDiffers h = refl
+nothing-told MidSideChannels h = refl
+nothing-told BytesLeft h = refl
+nothing-told WriterSpec h = refl
+nothing-told IncompleteFrame h = refl
+nothing-told ValueOutside h = refl
+nothing-told TooManyFrames h = refl
+nothing-told NotStereo h = refl
+nothing-told ParityDiffers h = refl
+nothing-told (WidthTooSmall k) h = absurd (miss others 23 tt h)
+nothing-told DataTooLarge h = refl
+nothing-told UnknownMode h = refl
+nothing-told SampleBytes h = refl
+nothing-told TemplateDiffers h = refl
+nothing-told TemplateBounds h = refl
+nothing-told TemplateOffsets h = refl
+nothing-told ShortGroup h = refl
+nothing-told TemplateBits h = refl
+nothing-told TemplateFlags h = refl
+nothing-told TemplateBytesLeft h = refl
+nothing-told OutputTooShort h = refl
 
 -- ---- an answer
 
@@ -132,27 +133,27 @@ module _ (said : Said) (want : Recorded) (room : List ℤ) where
   other-number h = rw (ne-eqb (said .number) (want .number) h)
 
   module _ (p : said .number ≡ want .number) where
-    pub other-bits : (said .bits ≡ want .bits → ⊥) → false ≡ isRecorded said want room
+    pub other-told : (said .told ≡ want .told → ⊥) → false ≡ isRecorded said want room
     unfolding isRecorded
-    other-bits h = rw (eq-eqb (said .number) (want .number) p, ne-eqb (said .bits) (want .bits) h)
+    other-told h = rw (eq-eqb (said .number) (want .number) p, ne-eqb (said .told) (want .told) h)
 
-    module _ (q : said .bits ≡ want .bits) where
+    module _ (q : said .told ≡ want .told) where
       pub other-length : (said .length ≡ want .length → ⊥) → false ≡ isRecorded said want room
       unfolding isRecorded
-      other-length h = rw (eq-eqb (said .number) (want .number) p, eq-eqb (said .bits) (want .bits) q, ne-eqb (said .length) (want .length) h)
+      other-length h = rw (eq-eqb (said .number) (want .number) p, eq-eqb (said .told) (want .told) q, ne-eqb (said .length) (want .length) h)
 
       module _ (r : said .length ≡ want .length) where
         pub no-room : {n : ℕ} → n ≡ length room → n < want .length / 4 → false ≡ isRecorded said want room
         unfolding isRecorded
-        no-room e h = rw (eq-eqb (said .number) (want .number) p, eq-eqb (said .bits) (want .bits) q, eq-eqb (said .length) (want .length) r, lt-leb (want .length / 4) (length room) (omega arith))
+        no-room e h = rw (eq-eqb (said .number) (want .number) p, eq-eqb (said .told) (want .told) q, eq-eqb (said .length) (want .length) r, lt-leb (want .length / 4) (length room) (omega arith))
 
         module _ {n : ℕ} (e : n ≡ length room) (h : want .length / 4 ≤ n) {sum : ℕ} (s : sum ≡ sumOf (take (want .length / 4) room)) where
           pub other-sum : (sum ≡ want .sum → ⊥) → false ≡ isRecorded said want room
           unfolding isRecorded
           other-sum ne =
-              rw (eq-eqb (said .number) (want .number) p, eq-eqb (said .bits) (want .bits) q, eq-eqb (said .length) (want .length) r, le-leb (want .length / 4) (length room) (omega arith), ← s, ne-eqb sum (want .sum) ne)
+              rw (eq-eqb (said .number) (want .number) p, eq-eqb (said .told) (want .told) q, eq-eqb (said .length) (want .length) r, le-leb (want .length / 4) (length room) (omega arith), ← s, ne-eqb sum (want .sum) ne)
 
           pub kept-or-not : {kept : Bool} → sum ≡ want .sum → kept ≡ isKept (want .length / 4) room → kept ≡ isRecorded said want room
           unfolding isRecorded
           kept-or-not t k =
-              k ∙ rw (eq-eqb (said .number) (want .number) p, eq-eqb (said .bits) (want .bits) q, eq-eqb (said .length) (want .length) r, le-leb (want .length / 4) (length room) (omega arith), ← s, eq-eqb sum (want .sum) t)
+              k ∙ rw (eq-eqb (said .number) (want .number) p, eq-eqb (said .told) (want .told) q, eq-eqb (said .length) (want .length) r, le-leb (want .length / 4) (length room) (omega arith), ← s, eq-eqb sum (want .sum) t)

@@ -27,55 +27,56 @@ use Rattle.replay_list.specs.Room.{isKept, sumOf}
 
 -- the call was accepted, and wrote so many bytes
 abbrev pub saidLength : ℕ → Said
-saidLength bytes = record { number = 0; bits = 0; length = bytes }
+saidLength bytes = record { number = 0; told = 0; length = bytes }
 
--- the call was refused by a number, with a bits word
+-- the call was refused by a number, and told more
 abbrev pub saidNumber : ℕ → ℕ → Said
-saidNumber refusal word = record { number = refusal; bits = word; length = 0 }
+saidNumber refusal more = record { number = refusal; told = more; length = 0 }
 
 -- ---- what an answer says
 
--- the bits word that a refusal tells, as 16 bits; 0 where it tells none
-unfoldable pub wordOf : Refusal → ℕ
-wordOf (BitsWord b) = codeOf 16 b
-wordOf TooShort = 0
-wordOf FileSignature = 0
-wordOf BlockSignature = 0
-wordOf ZeroChannels = 0
-wordOf DepthUnknown = 0
-wordOf ZeroRate = 0
-wordOf TableOffset = 0
-wordOf DataOffset = 0
-wordOf TableLength = 0
-wordOf LastEntry = 0
-wordOf DataWithoutFrames = 0
-wordOf FirstEntry = 0
-wordOf EntryBounds = 0
-wordOf FloatDiffers = 0
-wordOf MidSideChannels = 0
-wordOf BytesLeft = 0
-wordOf WriterSpec = 0
-wordOf IncompleteFrame = 0
-wordOf ValueOutside = 0
-wordOf TooManyFrames = 0
-wordOf NotStereo = 0
-wordOf ParityDiffers = 0
-wordOf WidthTooSmall = 0
-wordOf DataTooLarge = 0
-wordOf UnknownMode = 0
-wordOf SampleBytes = 0
-wordOf TemplateDiffers = 0
-wordOf TemplateBounds = 0
-wordOf TemplateOffsets = 0
-wordOf ShortGroup = 0
-wordOf TemplateBits = 0
-wordOf TemplateFlags = 0
-wordOf TemplateBytesLeft = 0
-wordOf OutputTooShort = 0
+-- what a refusal tells besides its number: the bits word, as 16 bits; the place of a value that does not fit; 0 where
+-- it tells nothing
+unfoldable pub toldBy : Refusal → ℕ
+toldBy (BitsWord b) = codeOf 16 b
+toldBy (WidthTooSmall place) = place
+toldBy TooShort = 0
+toldBy FileSignature = 0
+toldBy BlockSignature = 0
+toldBy ZeroChannels = 0
+toldBy DepthUnknown = 0
+toldBy ZeroRate = 0
+toldBy TableOffset = 0
+toldBy DataOffset = 0
+toldBy TableLength = 0
+toldBy LastEntry = 0
+toldBy DataWithoutFrames = 0
+toldBy FirstEntry = 0
+toldBy EntryBounds = 0
+toldBy FloatDiffers = 0
+toldBy MidSideChannels = 0
+toldBy BytesLeft = 0
+toldBy WriterSpec = 0
+toldBy IncompleteFrame = 0
+toldBy ValueOutside = 0
+toldBy TooManyFrames = 0
+toldBy NotStereo = 0
+toldBy ParityDiffers = 0
+toldBy DataTooLarge = 0
+toldBy UnknownMode = 0
+toldBy SampleBytes = 0
+toldBy TemplateDiffers = 0
+toldBy TemplateBounds = 0
+toldBy TemplateOffsets = 0
+toldBy ShortGroup = 0
+toldBy TemplateBits = 0
+toldBy TemplateFlags = 0
+toldBy TemplateBytesLeft = 0
+toldBy OutputTooShort = 0
 
--- the number of the refusal, and its bits word
+-- the number of the refusal, and what it tells
 abbrev pub saidRefused : Refusal → Said
-saidRefused r = saidNumber (number r) (wordOf r)
+saidRefused r = saidNumber (number r) (toldBy r)
 
 -- 4 bytes for each sample; from 2 ^ 32 samples on, a length that no list has
 abbrev pub saidSamples : ℕ → Said
@@ -93,26 +94,26 @@ saidBy (Refused r) = saidRefused r
 abbrev pub refusalOf : ℕ → ℕ
 refusalOf n = cond (ltb n (2 ^ 32)) n (2 ^ 32 - 1)
 
--- what the host boundary's number says: below 2 ^ 63 a length, otherwise 2 ^ 63 plus a refusal's number. It tells no
--- bits word: one is given
+-- what the host boundary's number says: below 2 ^ 63 a length, otherwise 2 ^ 63 plus a refusal's number. It tells
+-- nothing besides: what it would is given
 unfoldable pub saidByHost : ℕ → ℕ → Said
-saidByHost result word =
-    cond (ltb result (2 ^ 63)) (saidLength result) (saidNumber (refusalOf (result - 2 ^ 63)) word)
+saidByHost result more =
+    cond (ltb result (2 ^ 63)) (saidLength result) (saidNumber (refusalOf (result - 2 ^ 63)) more)
 
 -- ---- what was recorded
 
--- a refusal by a number, with a bits word
+-- a refusal by a number, which told more
 abbrev pub recordedRefusal : ℕ → ℕ → Recorded
-recordedRefusal refusal word = record { number = refusal; bits = word; length = 0; sum = 0 }
+recordedRefusal refusal more = record { number = refusal; told = more; length = 0; sum = 0 }
 
--- that was recorded: the number, the bits word and the length are the same, the room has so many samples, of 4 bytes,
+-- that was recorded: the number, what was told and the length are the same, the room has so many samples, of 4 bytes,
 -- their sum is the recorded one, and behind them it holds what it was filled with. Of a file whose length is no
 -- multiple of 4 the last 1 to 3 bytes are not summed
 unfoldable pub isRecorded : Said → Recorded → List ℤ → Bool
 isRecorded said want room =
     let n = want .length / 4 in
     eqb (said .number) (want .number)
-    && eqb (said .bits) (want .bits)
+    && eqb (said .told) (want .told)
     && eqb (said .length) (want .length)
     && leb n (length room)
     && eqb (sumOf (take n room)) (want .sum)

@@ -12,8 +12,8 @@ use lent_samples::Container;
 ghost use mathlib.Core.Path.{_≡_};
 ghost use Rattle.format.specs.Numbers.{codeOf};
 ghost use Rattle.lent_samples.specs.Lent.{lentOf};
-ghost use Rattle.replay_list.specs.Said.{saidLength, saidRefused, saidSamples, saidBy, refusalOf, saidByHost};
-ghost use Rattle.replay_list.specs.Said.{recordedRefusal, isRecorded, verdictOf};
+ghost use Rattle.replay_list.specs.Said.{saidLength, saidRefused, saidSamples, saidBy, toldBy};
+ghost use Rattle.replay_list.specs.Said.{refusalOf, saidByHost, recordedRefusal, isRecorded, verdictOf};
 
 // The number of a call that was accepted.
 pub const ACCEPTED: u32 = 0;
@@ -21,13 +21,17 @@ pub const ACCEPTED: u32 = 0;
 // The number of a step of a walk that was done.
 pub const DONE: u32 = 255;
 
-// The number of the one refusal that tells more than its number: a block's bits word.
+// The numbers of the two refusals that tell more than their number: a block's bits word, the place of a value that does
+// not fit.
 const BITS_WORD: u32 = 4;
 
-// What was recorded of a call. Where it was accepted, how many bytes of its room it wrote, and their sum.
+const WIDTH_TOO_SMALL: u32 = 36;
+
+// What was recorded of a call. Where it was refused, what it told besides the number; where it was accepted, how many
+// bytes of its room it wrote, and their sum.
 pub struct Recorded {
     pub number: u32,
-    pub bits: u16,
+    pub told: u16,
     pub length: u64,
     pub sum: u64,
 }
@@ -50,12 +54,12 @@ pub fn judged(is_same: bool, want: Recorded) -> Verdict
     }
 }
 
-fn refused(number: u32, bits: u16) -> Recorded
-    ensures { λ r. ⌜ r ≡ recordedRefusal number bits ⌝ }
+fn refused(number: u32, told: u16) -> Recorded
+    ensures { λ r. ⌜ r ≡ recordedRefusal number told ⌝ }
 {
     Recorded {
         number,
-        bits,
+        told,
         length: 0,
         sum: 0,
     }
@@ -67,6 +71,9 @@ pub fn read_recorded(list: i32, counts_samples: bool) -> Recorded {
     if number == BITS_WORD {
         return refused(BITS_WORD, read_u16(list));
     }
+    if number == WIDTH_TOO_SMALL {
+        return refused(WIDTH_TOO_SMALL, read_u16(list));
+    }
     if number != ACCEPTED {
         return refused(number, 0);
     }
@@ -75,16 +82,16 @@ pub fn read_recorded(list: i32, counts_samples: bool) -> Recorded {
     let length = if counts_samples { 4 * count } else { count };
     Recorded {
         number,
-        bits: 0,
+        told: 0,
         length,
         sum,
     }
 }
 
-// What a call said: its number, the bits word with it, and how many bytes it wrote.
+// What a call said: its number, what it told besides, and how many bytes it wrote.
 pub struct Said {
     pub number: u32,
-    pub bits: u16,
+    pub told: u16,
     pub length: u64,
 }
 
@@ -95,18 +102,23 @@ fn bits_word(bits: i16) -> u16
     (sample::bits_of(bits as i32) % 65536) as u16
 }
 
+// What a refusal tells besides its number.
+fn told_by(refusal: Refusal) -> u16
+    ensures { λ r. ⌜ r ≡ toldBy refusal ⌝ }
+{
+    match refusal {
+        Refusal::BitsWord(bits) => bits_word(bits),
+        Refusal::WidthTooSmall(place) => place,
+        _ => 0,
+    }
+}
+
 fn of_refusal(refusal: Refusal) -> Said
     ensures { λ r. ⌜ r ≡ saidRefused refusal ⌝ }
 {
-    let number = refusal.number();
-    let bits = if let Refusal::BitsWord(bits) = refusal {
-        bits_word(bits)
-    } else {
-        0
-    };
     Said {
-        number,
-        bits,
+        number: refusal.number(),
+        told: told_by(refusal),
         length: 0,
     }
 }
@@ -116,7 +128,7 @@ fn accepted(length: u64) -> Said
 {
     Said {
         number: ACCEPTED,
-        bits: 0,
+        told: 0,
         length,
     }
 }
@@ -143,7 +155,7 @@ pub fn of_answer(answer: Answer) -> Said
         Outcome::Refused(r) => of_refusal(r),
         Outcome::Finished => Said {
             number: DONE,
-            bits: 0,
+            told: 0,
             length: 0,
         },
         Outcome::Opened(_) => accepted(u64::MAX),
@@ -161,16 +173,16 @@ fn refusal_number(n: u64) -> u32
     }
 }
 
-// What the host boundary's number says. It tells no bits word: `bits` is the recorded one, which so is not compared.
-pub fn of_result(result: u64, bits: u16) -> Said
-    ensures { λ r. ⌜ r ≡ saidByHost result bits ⌝ }
+// What the host boundary's number says. It tells nothing besides: `told` is what was recorded, so that is not compared.
+pub fn of_result(result: u64, told: u16) -> Said
+    ensures { λ r. ⌜ r ≡ saidByHost result told ⌝ }
 {
     if result < 0x8000_0000_0000_0000 {
         return accepted(result);
     }
     Said {
         number: refusal_number(result - 0x8000_0000_0000_0000),
-        bits,
+        told,
         length: 0,
     }
 }
@@ -189,7 +201,7 @@ pub fn is_recorded(
     if said.number != want.number {
         return false;
     }
-    if said.bits != want.bits {
+    if said.told != want.told {
         return false;
     }
     if said.length != want.length {

@@ -33,7 +33,7 @@ decodedBytes file spoiled room = spoiledBytes spoiled (hostDecodeInto file (mark
 abbrev pub hostDecodes : List ℕ → ℕ → Recorded → List ℕ → Bool
 hostDecodes file spoiled want room =
     let lent = markedBytes room in
-    let said = saidByHost (hostDecode file (length lent)) (want .bits) in
+    let said = saidByHost (hostDecode file (length lent)) (want .told) in
     isAnswered said (hostDecodeInto file lent) spoiled want
 
 -- ---- both do

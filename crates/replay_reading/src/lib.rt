@@ -187,11 +187,11 @@ fn decode_by_entry(file: &[u8], spoiled: usize, room: &mut [i32], want: Recorded
     is_recorded(said, want, Container::Words, room, &[])
 }
 
-fn decode_bytes(file: &[u8], room: &mut [u8], bits: u16) -> Said
-    ensures says { λ r. ⌜ r ≡ saidByHost (hostDecode (now (file .entry)) (length (now (room .entry)))) bits ⌝ }
+fn decode_bytes(file: &[u8], room: &mut [u8], told: u16) -> Said
+    ensures says { λ r. ⌜ r ≡ saidByHost (hostDecode (now (file .entry)) (length (now (room .entry)))) told ⌝ }
     ensures puts { λ _. ⌜ now (room .exit) ≡ hostDecodeInto (now (file .entry)) (now (room .entry)) ⌝ }
 {
-    of_result(ncw::ncw_decode(file, room), bits)
+    of_result(ncw::ncw_decode(file, room), told)
 }
 
 // The host boundary decodes into a room of bytes.
@@ -200,7 +200,7 @@ fn decode_by_host(file: &[u8], spoiled: usize, room: &mut [u8], want: Recorded) 
     ensures leaves { λ _. ⌜ now (room .exit) ≡ decodedBytes (now (file .entry)) spoiled (now (room .entry)) ⌝ }
 {
     fill_bytes(room);
-    let said = decode_bytes(file, room, want.bits);
+    let said = decode_bytes(file, room, want.told);
     is_answered(said, spoiled, room, want)
 }
 

@@ -46,16 +46,16 @@ module _ (way : Way) (p : PcmSpec) (t : List ℕ) (xs : List ℤ) (room after : 
   pub reencode-puts : way ≡ Reencode → after ≡ reencodeInto p xs t room → after ≡ entryPuts way p t xs room
   reencode-puts e g = rw (e, g) refl
 
-module _ (way : Way) (p : PcmSpec) (t s : List ℕ) (room after : List ℕ) (result bits : ℕ) (said : Said) where
+module _ (way : Way) (p : PcmSpec) (t s : List ℕ) (room after : List ℕ) (result told : ℕ) (said : Said) where
   pub encode-told : (mode : ℕ) → way ≡ Encode mode → result ≡ hostEncode s p mode (length room)
-      → said ≡ saidByHost result bits → said ≡ hostSays way p t s bits (length room)
+      → said ≡ saidByHost result told → said ≡ hostSays way p t s told (length room)
   encode-told mode e g h = rw (e, h, g) refl
 
   pub encode-left : (mode : ℕ) → way ≡ Encode mode → after ≡ hostEncodeInto s p mode room → after ≡ hostPuts way p t s room
   encode-left mode e g = rw (e, g) refl
 
   pub reencode-told : way ≡ Reencode → result ≡ hostReencode s p t (length room)
-      → said ≡ saidByHost result bits → said ≡ hostSays way p t s bits (length room)
+      → said ≡ saidByHost result told → said ≡ hostSays way p t s told (length room)
   reencode-told e g h = rw (e, h, g) refl
 
   pub reencode-left : way ≡ Reencode → after ≡ hostReencodeInto s p t room → after ≡ hostPuts way p t s room

@@ -38,8 +38,8 @@ entryPuts Reencode p t xs room = reencodeInto p xs t room
 
 -- the host boundary, given the bytes s
 abbrev pub hostSays : Way → PcmSpec → List ℕ → List ℕ → ℕ → ℕ → Said
-hostSays (Encode mode) p t s bits n = saidByHost (hostEncode s p mode n) bits
-hostSays Reencode p t s bits n = saidByHost (hostReencode s p t n) bits
+hostSays (Encode mode) p t s told n = saidByHost (hostEncode s p mode n) told
+hostSays Reencode p t s told n = saidByHost (hostReencode s p t n) told
 
 abbrev pub hostPuts : Way → PcmSpec → List ℕ → List ℕ → List ℕ → List ℕ
 hostPuts (Encode mode) p t s room = hostEncodeInto s p mode room
@@ -70,7 +70,7 @@ leftByEntry way p t s spoiled room =
 abbrev pub hostWrites : Way → PcmSpec → List ℕ → List ℕ → ℕ → Recorded → List ℕ → Bool
 hostWrites way p t s spoiled want room =
     let lent = markedBytes room in
-    let said = hostSays way p t s (want .bits) (length lent) in
+    let said = hostSays way p t s (want .told) (length lent) in
     isAnswered said (hostPuts way p t s lent) spoiled want
 
 -- what is in the room then

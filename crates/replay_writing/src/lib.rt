@@ -97,10 +97,11 @@ fn write_by_entry(
     is_answered(said, spoiled, room, want)
 }
 
-// The host boundary does, given the samples as bytes. `bits` is the recorded bits word, since it tells none.
-fn write_bytes(way: Way, samples: &[u8], p: PcmSpec, old: &[u8], room: &mut [u8], bits: u16) -> Said
+// The host boundary does, given the samples as bytes. `told` is what was recorded besides the number, since it
+// tells nothing.
+fn write_bytes(way: Way, samples: &[u8], p: PcmSpec, old: &[u8], room: &mut [u8], told: u16) -> Said
     ensures says { λ r. ⌜ (let lent = now (room .entry) in
-        r ≡ hostSays way p (now (old .entry)) (now (samples .entry)) bits (length lent)) ⌝ }
+        r ≡ hostSays way p (now (old .entry)) (now (samples .entry)) told (length lent)) ⌝ }
     ensures puts { λ _. ⌜ (let lent = now (room .entry) in
         now (room .exit) ≡ hostPuts way p (now (old .entry)) (now (samples .entry)) lent) ⌝ }
 {
@@ -110,11 +111,11 @@ fn write_bytes(way: Way, samples: &[u8], p: PcmSpec, old: &[u8], room: &mut [u8]
     match way {
         Way::Encode(mode) => of_result(
             ncw::ncw_encode(samples, channels, depth, rate, mode, room),
-            bits,
+            told,
         ),
         Way::Reencode => of_result(
             ncw::ncw_reencode(samples, channels, depth, rate, old, room),
-            bits,
+            told,
         ),
     }
 }
@@ -135,7 +136,7 @@ fn write_by_host(
         now (room .exit) ≡ leftByHost way p (now (old .entry)) (now (samples .entry)) spoiled before) ⌝ }
 {
     fill_bytes(room);
-    let said = write_bytes(way, samples, p, old, room, want.bits);
+    let said = write_bytes(way, samples, p, old, room, want.told);
     is_answered(said, spoiled, room, want)
 }
 

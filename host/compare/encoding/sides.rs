@@ -1,7 +1,7 @@
 //! What either side makes of a call: the Rust original, and ours by its drop-in crate.
 use super::Call;
 use crate::asking::{ask, Answer, Question};
-use crate::input::number_of;
+use crate::errors::number_of;
 use crate::lent::Written;
 use crate::writing::Sampled;
 

@@ -2,7 +2,8 @@
 use crate::asking;
 use crate::boundary;
 use crate::encoding::{MODES, OUR_MODES};
-use crate::input::{calmly, differ, number_of, word, Difference, SUCCESS};
+use crate::errors::number_of;
+use crate::input::{calmly, differ, word, Difference, SUCCESS};
 use crate::lent::check_room;
 use crate::writing::RATE;
 use std::io::{stdout, Write};

@@ -1,6 +1,7 @@
 //! What either side says of a file: the Rust original, and ours by its drop-in crate.
 use crate::asking::{ask, Answer, Question};
-use crate::input::{refused, Refused};
+use crate::errors::refused;
+use crate::input::Refused;
 use std::io::Cursor;
 
 #[derive(Debug, PartialEq)]

@@ -1,4 +1,5 @@
 //! How many calls met each answer, and what the accepted templates are made of.
+use super::misfits::Misfits;
 use super::Call;
 use crate::input::{word, Answers, SUCCESS};
 use crate::lent::Written;
@@ -15,6 +16,7 @@ pub struct OfCalls {
     kept: Table<&'static str, 2>,
     /// By the bits word: in direct groups with flags 0 and 1, in mid/side ones with flags 0 and 1.
     blocks: Table<Width, 4>,
+    pub misfits: Misfits,
 }
 
 impl Tally {
@@ -44,9 +46,10 @@ impl Answers for OfCalls {
         self.numbers.add(&other.numbers);
         self.kept.add(&other.kept);
         self.blocks.add(&other.blocks);
+        self.misfits.add(&other.misfits);
     }
 
-    /// The answers by channels; how many files are the template; the blocks by width.
+    /// The answers by channels; how many files are the template; the blocks by width; what 36 is told of.
     fn print(&self) {
         line("answer", ["mono", "stereo", "others"]);
         self.numbers.print(word);
@@ -54,5 +57,6 @@ impl Answers for OfCalls {
         self.kept.print(str::to_string);
         line("width", ["direct 0", "direct 1", "mid/side 0", "mid/side 1"]);
         self.blocks.print(width_word);
+        self.misfits.print();
     }
 }

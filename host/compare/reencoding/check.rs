@@ -1,5 +1,6 @@
 //! One call on both sides.
 use super::answers::Tally;
+use super::place::{self, REFERENCE};
 use super::sides::{drop_in, original, Worded};
 use super::{rooms, Call};
 use crate::input::{calmly, differ, Difference};
@@ -17,7 +18,8 @@ pub fn check(call: &Call, tally: &mut Tally) -> Result<(), Difference> {
             return differ("the bits word by the drop-in crate", &word.to_string(), &ours_word.to_string());
         }
     }
-    calmly("the host boundary", || rooms::check(call, &rust, tally))?
+    calmly("the host boundary", || rooms::check(call, &rust, tally))??;
+    calmly(REFERENCE, || place::check(call, &rust, tally))?
 }
 
 /// The bits word by itself.

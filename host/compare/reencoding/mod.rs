@@ -1,38 +1,19 @@
 //! Calls that re-encode with a template.
 mod answers;
+mod call;
 mod check;
 mod families;
+mod misfits;
+mod place;
 mod rooms;
 mod shrink;
 mod sides;
 
 use crate::families::Family;
 use crate::input::{Difference, Input};
-use crate::lent::as_bytes;
 use crate::shrink::Search;
-use crate::writing::Sampled;
 use answers::{OfCalls, Tally};
-
-/// All that a call is given, but for the room.
-#[derive(Clone, PartialEq)]
-pub struct Call {
-    /// Their bytes, 4 a sample, which may be too few for the last one.
-    pub samples: Vec<u8>,
-    pub channels: u16,
-    pub depth: u16,
-    pub rate: u32,
-    pub template: Vec<u8>,
-}
-
-impl Sampled for Call {
-    fn bytes(&self) -> &[u8] {
-        &self.samples
-    }
-
-    fn with(&self, samples: &[i32]) -> Self {
-        Call { samples: as_bytes(samples), ..self.clone() }
-    }
-}
+pub use call::Call;
 
 impl Input for Call {
     type Answers = OfCalls;

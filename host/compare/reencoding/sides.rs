@@ -1,7 +1,8 @@
 //! What either side makes of a call: the Rust original, and ours by its drop-in crate.
 use super::Call;
 use crate::asking::{ask, Answer, Question};
-use crate::input::{refused, Refused};
+use crate::errors::refused;
+use crate::input::Refused;
 use crate::writing::Sampled;
 
 /// What is written, or the refusal.
@@ -10,8 +11,7 @@ pub type Worded = Result<Vec<u8>, Refused>;
 /// 39 is document 01's, and comes first.
 pub fn original(call: &Call) -> Worded {
     let samples = call.numbers().ok_or((39, 0))?;
-    let spec = ncw::PcmSpec { channels: call.channels, bits_per_sample: call.depth, sample_rate: call.rate };
-    match ask(&Question::Reencode(spec, samples, call.template.clone())) {
+    match ask(&Question::Reencode(call.spec(), samples, call.template.clone())) {
         Answer::Bytes(file) => Ok(file),
         Answer::Refused(number, word) => Err((number, word)),
         _ => panic!("an answer to another question"),

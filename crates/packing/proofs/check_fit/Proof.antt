@@ -1,4 +1,5 @@
--- A width holds every value where it holds the folded bits, which is the one test that is made.
+-- A width holds every value where it holds the folded bits, which is the one test that is made; the place is told only
+-- where it does not.
 use borrow.Author.Needs.{needs}
 use Rattle.packing.proofs.Widths.{fits-all, fits-not}
 use Rattle.packing.proofs.check_fit.Statement.{statement}
@@ -14,9 +15,12 @@ pub check-fit-spec : {M : Type 1} → statement M
 check-fit-spec =
     tie.close
     (tie.spec
+    (λ c. search needs)
     (λ c κs. search needs)
     (λ c. search needs)
     (λ c. search needs)
     (λ c κs. search needs)
     returns
+    (λ c. search needs)
+    (λ c κs. search needs)
     returns-2)

@@ -1,15 +1,13 @@
 -- The loop's invariant: with m in place of the values before i the same widths hold all; m has 31 bits at most.
-use mathlib.Core.Path.{_≡_, ap, _∙_}
+use mathlib.Core.Path.{_≡_}
 use Prim.Native.Nat.{_≤_, _<_, _-_, _^_}
 use native.Mathlib.Omega.{arith}
 use borrow.Author.Needs.{needs, sfits-of}
 use lib.IntN.{pos}
 use lib.ListN.{length, getD}
 use lib.Bits.{or-lt}
-use lib.Signed.{mag}
 use mir.Syntax.{w32}
-use mir.ValLaws.{toZ-ofZ}
-use Rattle.packing.proofs.Widths.{SoFar, so-far-none, so-far-more, so-far-all}
+use Rattle.packing.proofs.Widths.{mag-read, SoFar, so-far-none, so-far-more, so-far-all}
 use Rattle.packing.proofs.folded_bits.Statement.{statement}
 use Rattle.packing.proofs.folded_bits.Tie as tie
 
@@ -29,9 +27,9 @@ loop-holds c = (omega arith, search needs, omega arith, so-far-none _)
 loop-again : tie.Need-loop-again Inv-loop μ-loop
 loop-again c =
     let at = c .before .before .before .loop in
-    let values = c .before .before .before .before .args .t1 in
+    let values = c .before .before .before .before .args .values .now in
     let f = sfits-of {w = w32} {z = getD values (at .i) (pos 0)} (c .before .folded-arg .given) in
-    let e : c .folded .result ≡ mag (getD values (at .i) (pos 0)) = c .folded .ensures ∙ ap mag (toZ-ofZ w32 _ f) in (
+    let e = mag-read (getD values (at .i) (pos 0)) f (c .folded .ensures) in (
       omega arith,
       at .inv .1,
       or-lt 31 (at .m) (c .folded .result) (at .inv .2) (rw e (f .sfits)),

@@ -18,4 +18,4 @@ returns-2 : tie.Need-returns-2
 returns-2 c = let bits = c .before .folded-bits in sym (width-zeros _ _ (bits .ensures .1) (bits .ensures .0) ∙ max-eq-right (omega arith))
 
 pub width-spec : {M : Type 1} → statement M
-width-spec = tie.close (tie.spec (λ c κs. search needs) sub-b returns returns-2)
+width-spec = tie.close (tie.spec (λ c. search needs) (λ c κs. search needs) sub-b returns returns-2)

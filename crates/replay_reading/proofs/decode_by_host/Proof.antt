@@ -15,7 +15,7 @@ returns c =
     let asked = judged .before .before .before .before in
     let filled = asked .before .before .before .before in
     let x = filled .before .before .before .before .args in
-    asked-bytes (λ (lent : List ℕ). saidByHost (hostDecode (x .file .now) (length lent)) (x .want .bits)) (hostDecodeInto (x .file .now)) (x .room .now) _ _ _ _ (x .spoiled) (x .want) _
+    asked-bytes (λ (lent : List ℕ). saidByHost (hostDecode (x .file .now) (length lent)) (x .want .told)) (hostDecodeInto (x .file .now)) (x .room .now) _ _ _ _ (x .spoiled) (x .want) _
     (filled .fill-bytes .ensures)
     (asked .decode-bytes .ensures .0)
     (asked .decode-bytes .ensures .1)

@@ -15,7 +15,7 @@ returns c =
     let filled = asked .before .before .before .before in
     let x = filled .before .before .before .before .before .args in
     asked-bytes
-    (λ (lent : List ℕ). hostSays (x .way) (x .p) (x .old .now) (x .samples .now) (x .want .bits) (length lent))
+    (λ (lent : List ℕ). hostSays (x .way) (x .p) (x .old .now) (x .samples .now) (x .want .told) (length lent))
     (hostPuts (x .way) (x .p) (x .old .now) (x .samples .now))
     (x .room .now) _ _ _ _ (x .spoiled) (x .want) _
     (filled .fill-bytes .ensures)

@@ -3,6 +3,9 @@
 #[path = "../../../recorded/draw.rs"]
 mod draw;
 #[allow(dead_code)]
+#[path = "../../../definitions/misfit.rs"]
+mod misfit;
+#[allow(dead_code)]
 #[path = "../../../definitions/random.rs"]
 mod random;
 #[path = "../../../recorded/reread.rs"]
@@ -21,13 +24,15 @@ fn ask(question: &Question) -> Option<Given> {
     let (channels, depth, rate) = (spec.channels, spec.bits_per_sample, spec.sample_rate);
     match question.kind {
         16 => Some((opened(file).unwrap_or_else(|error| refused(&error)), Vec::new())),
-        17 => Some(in_room(4 * question.room, 4, |room| boundary::decode(file, room), || bits_of_decoding(file))),
+        17 => Some(in_room(4 * question.room, 4, |room| boundary::decode(file, room), |_| bits_of_decoding(file))),
         19 => {
-            Some(in_room(question.room, 1, |room| boundary::encode(samples, channels, depth, rate, *first, room), || 0))
+            let call = |room: &mut [u8]| boundary::encode(samples, channels, depth, rate, *first, room);
+            Some(in_room(question.room, 1, call, |_| 0))
         }
         20 => {
             let call = |room: &mut [u8]| boundary::reencode(samples, channels, depth, rate, file, room);
-            Some(in_room(question.room, 1, call, || bits_of_reencoding(question)))
+            let value = |number| if number == 4 { bits_of_reencoding(question) } else { place(question) };
+            Some(in_room(question.room, 1, call, value))
         }
         _ => None,
     }
@@ -50,8 +55,8 @@ fn refused(error: &NcwError) -> Vec<u8> {
     vec![error.number().expect("a number") as u8]
 }
 
-/// The call with room for so many bytes; all but what it wrote has to be as it was. A count is of `size` bytes each.
-fn in_room(room: usize, size: usize, call: impl FnOnce(&mut [u8]) -> u64, bits: impl FnOnce() -> i16) -> Given {
+/// The call with room for so many bytes; all but what it wrote has to be as it was. A count is of `size` bytes each. With 4 and 36 the list has a value.
+fn in_room(room: usize, size: usize, call: impl FnOnce(&mut [u8]) -> u64, value: impl FnOnce(u64) -> i16) -> Given {
     let mut lent = vec![FILLER; room];
     let answer = call(&mut lent);
     let refused = answer.checked_sub(boundary::REFUSED);
@@ -59,7 +64,7 @@ fn in_room(room: usize, size: usize, call: impl FnOnce(&mut [u8]) -> u64, bits: 
     assert!(lent[written..].iter().all(|byte| *byte == FILLER), "bytes that had to stay");
     lent.truncate(written);
     let told = match refused {
-        Some(4) => [&[4][..], &bits().to_le_bytes()].concat(),
+        Some(number @ (4 | 36)) => [&[number as u8][..], &value(number).to_le_bytes()].concat(),
         Some(number) => vec![number as u8],
         None => [&[0][..], &((written / size) as u32).to_le_bytes(), &sum(&lent).to_le_bytes()].concat(),
     };
@@ -72,6 +77,12 @@ fn bits_of_decoding(file: &[u8]) -> i16 {
 
 fn bits_of_reencoding(question: &Question) -> i16 {
     bits(ncw::encode_pcm_with_template(&words(question.samples), question.spec, question.file).map(drop))
+}
+
+/// The boundary has the number of 36 only: its place is the reference's, as in the list, and nothing of ours is held to it here.
+fn place(question: &Question) -> i16 {
+    let found = misfit::first_misfit(&words(question.samples), question.spec.channels.into(), question.file);
+    found.expect("a misfit, since 36 is told").place as i16
 }
 
 fn bits(answer: Result<(), NcwError>) -> i16 {

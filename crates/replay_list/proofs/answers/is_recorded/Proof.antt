@@ -1,6 +1,6 @@
 -- The tests come in the definition's order: at each way out those before it were passed.
 use borrow.Author.Needs.{needs}
-use Rattle.replay_list.proofs.Sayings.{other-number, other-bits, other-length, no-room, other-sum, kept-or-not}
+use Rattle.replay_list.proofs.Sayings.{other-number, other-told, other-length, no-room, other-sum, kept-or-not}
 use Rattle.replay_list.proofs.answers.is_recorded.Statement.{statement}
 use Rattle.replay_list.proofs.answers.is_recorded.Tie as tie
 
@@ -9,7 +9,7 @@ is-recorded-spec =
     tie.close
     (tie.spec
     (λ c. search other-number)
-    (λ c. search other-bits)
+    (λ c. search other-told)
     (λ c. search other-length)
     (λ c κs. search needs)
     (λ c. search no-room)
