@@ -63,13 +63,15 @@ x86_rust() {
     native_rust
 }
 
-# as_rt_runs PROGRAM WORDS..: one of the programs that rt makes; on Arm in the toolchain's own emulator.
+# The folder of the Rattle kit.
+kit() {
+    printf '%s\n' "${RATTLE_HOME:-$(dirname "$(dirname "$(readlink -f "$(command -v rt)")")")}"
+}
+
+# as_rt_runs PROGRAM WORDS..: one of the programs that rt makes, with the kit's C library; on Arm in its emulator.
 as_rt_runs() {
-    local kit
-    if [ "$machine" = x86_64 ]; then
-        "$@"
-        return
-    fi
-    kit=${RATTLE_HOME:-$(dirname "$(dirname "$(readlink -f "$(command -v rt)")")")}/on/$machine/toolchain
-    "$kit/bin/qemu-x86_64" "$kit/lib/ld-linux-x86-64.so.2" --library-path "$kit/lib" "$@"
+    local with start=()
+    with=$(kit)/on/$machine/toolchain
+    [ "$machine" = x86_64 ] || start=("$with/bin/qemu-x86_64")
+    "${start[@]}" "$with/lib/ld-linux-x86-64.so.2" --library-path "$with/lib" "$@"
 }

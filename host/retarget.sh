@@ -5,7 +5,7 @@
 # in KEPT.
 kit_beside() {
     local to=$1 kept=$2 from name
-    from=${RATTLE_HOME:-$(dirname "$(dirname "$(readlink -f "$(command -v rt)")")")}
+    from=$(kit)
     for name in on "$machine" toolchain bin clang; do
         mkdir -p "$to"
         find "$from" -mindepth 1 -maxdepth 1 ! -name "$name" -exec ln -sfn -t "$to" {} +

@@ -72,7 +72,7 @@ use writing::Sampled;
 
 const USAGE: &str = "usage: places COUNT SEED FOLDER";
 
-/// The most items that the program replay follows.
+/// The most items that the program replay follows (`MOST_TURNS` there).
 const MOST_ITEMS: usize = 10_000_000;
 
 fn main() {
@@ -82,10 +82,10 @@ fn main() {
     println!("seed {seed}, {count} re-encodings asked for");
     let mut list = List::new();
     reencoding::families::all(count, seed).iter().for_each(|family| list.ask_all(family));
-    let (bytes, text) = list.ended();
-    let wrote = std::fs::write(format!("{folder}/answers"), &bytes)
-        .and_then(|()| std::fs::write(format!("{folder}/stdout"), text));
-    wrote.unwrap_or_else(|error| stop(&format!("{folder}: {error}")));
+    let (bytes, text, names) = list.ended();
+    for (name, content) in [("answers", bytes), ("stdout", text.into_bytes()), ("names", names.into_bytes())] {
+        std::fs::write(format!("{folder}/{name}"), content).unwrap_or_else(|error| stop(&format!("{name}: {error}")));
+    }
 }
 
 fn stop(message: &str) -> ! {
@@ -107,33 +107,32 @@ struct List {
 
 impl List {
     fn new() -> Self {
-        let mut tape = Tape::new();
-        tape.case("refused by 36");
-        let (known, misfits) = (HashSet::new(), Misfits::default());
+        let (tape, known, misfits) = (Tape::new(), HashSet::new(), Misfits::default());
         List { tape, known, misfits, inputs: 0, refused: 0, twice: 0, too_long: 0 }
     }
 
     fn ask_all(&mut self, family: &Family<Call>) {
-        (0..family.count()).for_each(|index| self.ask(&family.input(index)));
+        (0..family.count()).for_each(|index| self.ask(&family.input(index), || format!("{} {index}", family.name)));
     }
 
-    fn ask(&mut self, call: &Call) {
+    fn ask(&mut self, call: &Call, name: impl FnOnce() -> String) {
         self.inputs += 1;
         let Some(samples) = call.numbers() else { return };
         let question = Question::Reencode(call.spec(), samples, call.template.clone());
         if matches!(placed::ask(&question), Answer::Refused(36, _)) {
             self.refused += 1;
-            self.put(call);
+            self.put(call, name);
         }
     }
 
     /// Each call once, if there is space for it.
-    fn put(&mut self, call: &Call) {
+    fn put(&mut self, call: &Call, name: impl FnOnce() -> String) {
         if call.template.len().max(call.samples.len()) > SPACE {
             self.too_long += 1;
         } else if !self.known.insert(number_of(call)) {
             self.twice += 1;
         } else {
+            self.tape.case(&name());
             self.push(call, &call.numbers().expect("whole samples"));
         }
     }
@@ -147,8 +146,8 @@ impl List {
         self.misfits.note(&found.expect("36 is told"));
     }
 
-    /// The list, and what the program must print of it.
-    fn ended(self) -> (Vec<u8>, String) {
+    /// The list, what the program must print of it, and the item that each question begins with.
+    fn ended(self) -> (Vec<u8>, String, String) {
         let List { tape, known, misfits, inputs, refused, twice, too_long } = self;
         let (bytes, tape) = tape.ended();
         let text = tape.tally.text();
@@ -157,10 +156,15 @@ impl List {
         );
         misfits.print();
         println!("{} questions, {} items, {} bytes", known.len(), tape.items, bytes.len());
-        assert!(tape.items <= MOST_ITEMS, "more items than the program follows");
+        if known.is_empty() || tape.items > MOST_ITEMS {
+            stop("no question, or more items than the program follows");
+        }
         let again = Tally::of(&reread::reread(&bytes, |question| Some(answers::to(question))));
-        assert_eq!(text, again.text(), "the list read back");
-        (bytes, text)
+        if text != again.text() {
+            stop("the list reads back as another");
+        }
+        let names = tape.cases.iter().map(|case| format!("{} {}\n", case.item, case.name)).collect();
+        (bytes, text, names)
     }
 }
 

@@ -1,8 +1,8 @@
 //! Values and differences that don't fit their block: which of them 36 tells, and at which place.
 use crate::blocks::{differences, file, flagged, raw};
 use crate::faults::put;
-use crate::files::Block;
-use crate::lists::{from_mid_side, woven};
+use crate::files::{Block, File};
+use crate::lists::{edges_of, from_mid_side, woven};
 use crate::templates::{with, Reencoding};
 
 /// Blocks of zeros at 4 bits, which hold -8 to 7.
@@ -174,18 +174,33 @@ fn of_what_is_behind() -> Vec<Reencoding> {
     sets.map(behind).into()
 }
 
-/// In each width the highest and the lowest that fit, and then one that doesn't.
+/// In each width the highest and the lowest that fit, and then one that doesn't. Differences of bits 1 are refused by 44.
 fn of_widths() -> Vec<Reencoding> {
-    let template = |block: Block| file(1, 24, 4, vec![vec![block]]);
-    let of = |width: u32| {
-        let half = 1 << (width - 1);
-        let beyond = if width % 2 == 0 { half } else { -half - 1 };
-        let values = [half - 1, -half, beyond, 0];
-        let steps = [0, half - 1, -1, beyond - 1];
-        [
-            with(&format!("misfit, a value of {width} bits"), values, &template(raw(width, &[]))),
-            with(&format!("misfit, a difference of {width} bits"), steps, &template(differences(0, width, &[]))),
-        ]
+    let values = |width: u32| {
+        let [highest, lowest, beyond] = limits(width);
+        let samples = [highest, lowest, beyond, 0];
+        with(&format!("misfit, a value of {width} bits"), samples, &one_block(4, raw(width, &[])))
     };
-    (1..=23).flat_map(of).collect()
+    let steps = |width: u32| {
+        let [highest, lowest, beyond] = limits(width);
+        let samples = [0, highest, highest + lowest, highest + lowest + beyond];
+        with(&format!("misfit, a difference of {width} bits"), samples, &one_block(4, differences(0, width, &[])))
+    };
+    (1..=23).map(values).chain((2..=24).map(steps)).chain((25..=31).map(of_wide_steps)).collect()
+}
+
+fn limits(width: u32) -> [i32; 3] {
+    let [highest, lowest, above, below] = edges_of(width as u16);
+    [highest, lowest, if width % 2 == 0 { above } else { below }]
+}
+
+/// No two samples of 24 bits are so far apart; but the first padded one may be.
+fn of_wide_steps(width: u32) -> Reencoding {
+    let template = one_block(2, differences(i32::MIN, width, &[]));
+    with(&format!("misfit, a difference of {width} bits"), [-8_388_608, 8_388_607], &template)
+}
+
+/// 24 bits.
+fn one_block(frames: u32, block: Block) -> File {
+    file(1, 24, frames, vec![vec![block]])
 }

@@ -60,9 +60,9 @@ reencodedBlock depth block xs =
     ++ (from 8 8 block
     ++ packing (widthOf (codingOf depth block)) (valuesFor depth block xs)))
 
--- the first 1 is the header's, the second the values'
-unfoldable pub checkReencodeBlock : ℕ → List ℕ → List ℤ → Checked
-checkReencodeBlock depth block xs =
+-- the block by itself; the first 1 is the header's, the second the values'
+unfoldable pub checkTemplateBlock : ℕ → List ℕ → Checked
+checkTemplateBlock depth block =
     refuse (ltb (length block) 16) TooShort  -- 1
     then refuse (not (isBlock block)) BlockSignature  -- 3
     then refuse (eqb (bitsWord block) 0) TemplateBits  -- 44
@@ -70,6 +70,10 @@ checkReencodeBlock depth block xs =
     then refuse (ltb 1 (flagsOf block)) TemplateFlags  -- 45
     then refuse (isBeyond (codingOf depth block)) (BitsWord (bitsOf block))  -- 4
     then refuse (ltb (length block) (sizeOf depth block)) TooShort  -- 1
+
+unfoldable pub checkReencodeBlock : ℕ → List ℕ → List ℤ → Checked
+checkReencodeBlock depth block xs =
+    checkTemplateBlock depth block  -- 1, 3, 44, 45, 4, 1
     then checkFit (widthOf (codingOf depth block)) (valuesFor depth block xs)  -- 36
 
 -- ---- a group of the template; samples are those of its frames

@@ -16,7 +16,7 @@ use Rattle.format.specs.declared.packed.Coding.{Coding}
 use Rattle.format.specs.declared.packed.Coding.the-variants.{Differences, Raw, Beyond}
 use Rattle.format.specs.Blocks.{isBlock, midBit, codingOf, sizeOf, fromBlock}
 use Rattle.format.specs.Encoding.{unwoven, firstValue, midSide, parity}
-use Rattle.format.specs.Reencoding.{valuesFor, baseFor, reencodedBlock, checkReencodeBlock, activeIn, checkReencodeGroup, reencodedGroup}
+use Rattle.format.specs.Reencoding.{valuesFor, baseFor, reencodedBlock, checkTemplateBlock, checkReencodeBlock, activeIn, checkReencodeGroup, reencodedGroup}
 use Rattle.format.specs.Fit.{checkFit}
 use Rattle.format.specs.declared.refusals.Checked.the-variants.{Fine}
 use Rattle.laws.proofs.Tests.{asks-two}
@@ -28,52 +28,64 @@ use Rattle.laws.proofs.Misfits.{fine-fit}
 use Rattle.laws.proofs.Channels.{unwoven-long}
 use Rattle.laws.proofs.Stereo.{both-long}
 
--- ---- what a passed check of a template's block tells
-pub record Template (depth : ℕ) (r : List ℕ) (xs : List ℤ) : Type 0 where
+-- ---- a template's block whose own checks pass: 1, 3, 44, 45, 4 and 1
+pub record Template (depth : ℕ) (r : List ℕ) : Type 0 where
   pub head : 16 ≤ length r
   pub mark : isBlock r ≡ true
   pub bits : 2 ≤ numAt 8 2 r
   pub flags : numAt 10 2 r < 2
   pub within : isBeyond (codingOf depth r) ≡ false
   pub sized : sizeOf depth r ≤ length r
-  pub fit : AllHold (widthOf (codingOf depth r)) (valuesFor depth r xs)
 
-pub template-ok : (depth : ℕ) (r : List ℕ) (xs : List ℤ) → checkReencodeBlock depth r xs ≡ Fine → Template depth r xs
-unfolding checkReencodeBlock
-template-ok depth r xs e =
-    let e2 = others-fine _ _ e in
-    let e3 = others-fine _ _ e2 in
-    let e4 = others-fine _ _ e3 in
-    let e5 = others-fine _ _ e4 in
-    let e6 = others-fine _ _ e5 in
-    let e7 = others-fine _ _ e6 in
-    let e8 = others-fine _ _ e7 in
-    let not0 = eqb-false (numAt 8 2 r) 0 (passed _ _ (first-fine _ _ e3)) in
-    let not1 = eqb-false (numAt 8 2 r) 1 (passed _ _ (first-fine _ _ e4)) in
-    let f = ltb-false 1 (numAt 10 2 r) (passed _ _ (first-fine _ _ e5)) in
-    record {
-      head = ltb-false (length r) 16 (passed _ _ (first-fine _ _ e));
-      mark = not-false _ (passed _ _ (first-fine _ _ e2));
-      bits = omega arith;
-      flags = omega arith;
-      within = passed _ _ (first-fine _ _ e6);
-      sized = ltb-false (length r) (sizeOf depth r) (passed _ _ (first-fine _ _ e7));
-      fit = every-holds (widthOf (codingOf depth r)) (valuesFor depth r xs) (fine-fit (widthOf (codingOf depth r)) (valuesFor depth r xs) e8);
-    }
+module _ (depth : ℕ) (r : List ℕ) where
+  pub template-told : checkTemplateBlock depth r ≡ Fine → Template depth r
+  unfolding checkTemplateBlock
+  template-told e =
+      let e2 = others-fine _ _ e in
+      let e3 = others-fine _ _ e2 in
+      let e4 = others-fine _ _ e3 in
+      let e5 = others-fine _ _ e4 in
+      let e6 = others-fine _ _ e5 in
+      let not0 = eqb-false (numAt 8 2 r) 0 (passed _ _ (first-fine _ _ e3)) in
+      let not1 = eqb-false (numAt 8 2 r) 1 (passed _ _ (first-fine _ _ e4)) in
+      let f = ltb-false 1 (numAt 10 2 r) (passed _ _ (first-fine _ _ e5)) in
+      record {
+        head = ltb-false (length r) 16 (passed _ _ (first-fine _ _ e));
+        mark = not-false _ (passed _ _ (first-fine _ _ e2));
+        bits = omega arith;
+        flags = omega arith;
+        within = passed _ _ (first-fine _ _ e6);
+        sized = ltb-false (length r) (sizeOf depth r) (passed _ _ (others-fine _ _ e6));
+      }
 
--- with other samples only 36 is left to refuse
-pub fit-decides : (depth : ℕ) (r : List ℕ) (xs ys : List ℤ) → Template depth r xs
-    → checkReencodeBlock depth r ys ≡ checkFit (widthOf (codingOf depth r)) (valuesFor depth r ys)
-unfolding checkReencodeBlock
-fit-decides depth r xs ys ok =
-    pass _ _ (le-ltb (length r) 16 (ok .head))
-    and-then pass _ _ (ap not (ok .mark))
-    and-then pass _ _ (ne-eqb (numAt 8 2 r) 0 (λ e. omega (arith, ok .bits)))
-    and-then pass _ _ (ne-eqb (numAt 8 2 r) 1 (λ e. omega (arith, ok .bits)))
-    and-then pass _ _ (le-ltb 1 (numAt 10 2 r) (omega (arith, ok .flags)))
-    and-then pass _ _ (ok .within)
-    and-then pass _ _ (le-ltb (length r) (sizeOf depth r) (ok .sized))
-    and-then refl
+  template-fine : Template depth r → checkTemplateBlock depth r ≡ Fine
+  unfolding checkTemplateBlock
+  template-fine ok =
+      pass _ _ (le-ltb (length r) 16 (ok .head))
+      and-then pass _ _ (ap not (ok .mark))
+      and-then pass _ _ (ne-eqb (numAt 8 2 r) 0 (λ e. omega (arith, ok .bits)))
+      and-then pass _ _ (ne-eqb (numAt 8 2 r) 1 (λ e. omega (arith, ok .bits)))
+      and-then pass _ _ (le-ltb 1 (numAt 10 2 r) (omega (arith, ok .flags)))
+      and-then pass _ _ (ok .within)
+      and-then pass _ _ (le-ltb (length r) (sizeOf depth r) (ok .sized))
+
+  -- with the active samples xs
+  module _ (xs : List ℤ) where
+    abbrev width : ℕ
+    width = widthOf (codingOf depth r)
+
+    pub template-ok : checkReencodeBlock depth r xs ≡ Fine → Template depth r
+    unfolding checkReencodeBlock
+    template-ok e = template-told (first-fine _ _ e)
+
+    pub fit-ok : checkReencodeBlock depth r xs ≡ Fine → AllHold width (valuesFor depth r xs)
+    unfolding checkReencodeBlock
+    fit-ok e = every-holds width (valuesFor depth r xs) (fine-fit width (valuesFor depth r xs) (others-fine _ _ e))
+
+    -- only 36 is left to refuse
+    pub fit-decides : Template depth r → checkReencodeBlock depth r xs ≡ checkFit width (valuesFor depth r xs)
+    unfolding checkReencodeBlock
+    fit-decides ok = template-fine ok and-then refl
 
 pub base-4 : (k : Coding) (r : List ℕ) (xs : List ℤ) → 16 ≤ length r → length (baseFor k r xs) ≡ 4
 unfolding baseFor
@@ -145,11 +157,16 @@ module _ (depth n : ℕ) (bs : List ℕ) (s : List ℤ) (fine : checkReencodeGro
   pub even-ok : midBit bs ≡ true → parity (unwoven n s) ≡ true
   even-ok m = not-false _ (subst (λ (b : Bool). (b && not (parity (unwoven n s))) ≡ false) m parity-ok)
 
-  pub blocks-ok : (c : ℕ) → c < n → Template depth (r c) (getD chans c [])
+  blocks-fine : (c : ℕ) → c < n → checkReencodeBlock depth (r c) (getD chans c []) ≡ Fine
   unfolding checkReencodeGroup
-  blocks-ok c q =
-      template-ok depth (r c) (getD chans c [])
-      (order-fine (λ c. checkReencodeBlock depth (r c) (getD chans c [])) c n q (first-fine _ _ (others-fine _ _ (others-fine _ _ (others-fine _ _ fine)))))
+  blocks-fine c q =
+      order-fine (λ c. checkReencodeBlock depth (r c) (getD chans c [])) c n q (first-fine _ _ (others-fine _ _ (others-fine _ _ (others-fine _ _ fine))))
+
+  pub blocks-ok : (c : ℕ) → c < n → Template depth (r c)
+  blocks-ok c q = template-ok depth (r c) (getD chans c []) (blocks-fine c q)
+
+  pub fits-ok : (c : ℕ) → c < n → AllHold (widthOf (codingOf depth (r c))) (valuesFor depth (r c) (getD chans c []))
+  fits-ok c q = fit-ok depth (r c) (getD chans c []) (blocks-fine c q)
 
   pub none-left : length (r n) ≡ 0
   unfolding checkReencodeGroup

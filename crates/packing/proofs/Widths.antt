@@ -1,8 +1,8 @@
 -- The bits of all folded values in one number: a width holds all values where it holds that number, so one test tells
--- what 512 would.
+-- what 512 would. And the first value that it does not hold, value by value.
 use Prim.Native.Nat.{ℕ, suc, _+_, _-_, _^_, _<_, _≤_}
 use mathlib.Core.Path.{_≡_, refl, sym, ap, _∙_}
-use mathlib.Core.Bool.{Bool, true, false, not, _&&_, cond, and-true, and-assoc}
+use mathlib.Core.Bool.{Bool, true, false, _&&_, cond, and-true, and-assoc}
 use mathlib.Core.List.{List}
 use native.Mathlib.Omega.{arith}
 use lib.Dec.{ltb}

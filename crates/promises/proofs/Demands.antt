@@ -9,6 +9,8 @@ use lib.ListN.{length, take}
 use lib.IntN.{ℤ}
 use Rattle.format.specs.Lists.{over}
 use Rattle.format.specs.Numbers.{Below}
+use Rattle.format.specs.Header.{fieldsOf}
+use Rattle.format.specs.Units.{active}
 use Rattle.format.specs.Refusals.{_then_}
 use Rattle.format.specs.Answers.{answeredBy, refusedBy, answered, read, wrote}
 use Rattle.format.specs.Opening.{headerOf, openOf}
@@ -32,7 +34,7 @@ use Rattle.promises.proofs.Refile as Refile
 use Rattle.promises.proofs.Again.{says-same, leaves-same}
 use Rattle.promises.proofs.Files.{encode-ok, file-written, reencode-ok, new-file, template-written}
 use Rattle.promises.proofs.ParityLaws.{Some, oddFrame, parity-so, so-parity}
-use Rattle.promises.proofs.Misfits.{Misfit, misfit-so, so-misfit}
+use Rattle.promises.proofs.Misfits.{fresh, codingAt, Misfit, misfit-so, so-misfit, misfit-new, misfit-below}
 
 -- a rate is a number of 32 bits, as its type says
 abbrev pub Rate32 : PcmSpec → Type 0
@@ -140,3 +142,8 @@ unfolding reencodeOf
 misfit-exactly p s t lent after k r e =
     let q = exactly-no (checkReencodeInto p s t (length lent)) (Wrote (length t)) refl (WidthTooSmall k) r (e .0) in
     (λ x. misfit-so p s t k (length lent) (q .0 x), λ m. q .1 (so-misfit p s t k (length lent) m))
+
+-- it is the place of a new value, that of an active sample and never the last difference; so it is below 512
+pub misfit-place : (p : PcmSpec) (s : List ℤ) (t : List ℕ) (k : ℕ) (m : Misfit p s t k)
+    → (k < fresh (codingAt p s t (m .group) (m .channel)) (active (fieldsOf t .frames) (m .group))) × (k < 512)
+misfit-place p s t k m = (misfit-new p s t k m, misfit-below p s t k m)

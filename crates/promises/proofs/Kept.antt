@@ -65,7 +65,7 @@ module _ (base : ℤ) (fb : SFits w32 base) (run : List ℕ) (xs : List ℤ) (so
   base-kept Beyond r q z = refl
 
 -- a template's block, with samples xs that it holds at its front
-module _ (depth : ℕ) (low : 1 ≤ depth) (high : depth ≤ 32) (r : List ℕ) (byte : Below 256 r) (xs : List ℤ) (some : 1 ≤ length xs) (ok : Template depth r xs)
+module _ (depth : ℕ) (low : 1 ≤ depth) (high : depth ≤ 32) (r : List ℕ) (byte : Below 256 r) (xs : List ℤ) (some : 1 ≤ length xs) (ok : Template depth r)
     (own : xs ≡ take (length xs) (samplesOf depth r)) where
   abbrev c : Coding
   c = codingOf depth r

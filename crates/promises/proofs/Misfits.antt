@@ -1,5 +1,5 @@
 -- 36 tells its place: it comes from the block of one group and channel, before which all pass, and in that block the
--- place is the first whose value the width does not hold. No other check says 36.
+-- place is the first whose value the width does not hold. No other check says 36; and where that is so, 36 is said.
 use Prim.Native.Nat.{ℕ, _+_, _-_, _*_, _^_, _≤_, _<_, min}
 use mathlib.Core.Path.{_≡_, refl, sym, ap, _∙_, subst}
 use mathlib.Core.Bool.{false, not, _&&_}
@@ -11,16 +11,14 @@ use lib.Seq.{getD-append-add, getD-drop}
 use lib.IntN.{ℤ, pos}
 use lib.Signed.{mag}
 use lib.Dec.{eqb}
-use borrow.Author.Tests.{lt-ltb}
-use Rattle.format.specs.Numbers.{holds}
+use borrow.Author.Tests.{lt-ltb, le-ltb, ltb-false}
 use Rattle.format.specs.Header.{fieldsOf, groupsOf, groupBytes}
 use Rattle.format.specs.Packed.{widthOf, values, isBeyond, rebuilt}
 use Rattle.format.specs.Blocks.{baseOf, bitsOf, midBit, codingOf, decoded, samplesOf, fromBlock}
 use Rattle.format.specs.Units.{active}
 use Rattle.format.specs.Refusals.{_then_}
-use Rattle.format.specs.Encoding.{differences, groupIn, checkSamples}
-use Rattle.format.specs.Fit.{checkFit}
-use Rattle.format.specs.Reencoding.{newValues, valuesFor, activeIn, checkReencodeBlock, checkReencodeGroup}
+use Rattle.format.specs.Encoding.{differences, unwoven, parity, groupIn, checkSamples}
+use Rattle.format.specs.Reencoding.{newValues, valuesFor, activeIn, checkTemplateBlock, checkReencodeBlock, checkReencodeGroup}
 use Rattle.format.specs.Reencoding.{checkSame, checkBounds, checkRising, checkTemplate, checkReencoder, checkReencode, checkReencodeInto}
 use Rattle.format.specs.declared.packed.Coding.{Coding}
 use Rattle.format.specs.declared.packed.Coding.the-variants.{Differences, Raw, Beyond}
@@ -31,14 +29,14 @@ use Rattle.format.specs.declared.refusals.Refusal.the-variants.{WidthTooSmall}
 use Rattle.format.specs.declared.settings.PcmSpec.{PcmSpec}
 use Rattle.format.specs.declared.answers.Fields.{Fields}
 use Rattle.laws.proofs.Tests.{never}
-use Rattle.laws.proofs.Checks.{passed, _and-then_, first-fine, others-fine, Unsaid, unsaid, _nor_, said-after, said-before}
+use Rattle.laws.proofs.Checks.{pass, passed, _and-then_, first-fine, others-fine, Unsaid, unsaid, _nor_, said-after, said-before}
 use Rattle.laws.proofs.Checks.{in-order, order-fine, FirstRefuses, order-refuses, refusal-first}
 use Rattle.laws.proofs.Signs.{Holds, AllHold, values-hold}
 use Rattle.laws.proofs.Widths.{width-some}
-use Rattle.laws.proofs.Misfits.{FirstMisfit, misfit-told}
+use Rattle.laws.proofs.Misfits.{FirstMisfit, misfit-told, tells-misfit}
 use Rattle.laws.proofs.Channels.{group-length}
 use Rattle.laws.proofs.SampleChecks.{reencoder-ok, spec-unsaid, samples-unsaid}
-use Rattle.laws.proofs.Templates.{actives-long}
+use Rattle.laws.proofs.Templates.{template-told, actives-long}
 use Rattle.laws.proofs.TemplateFiles.{channels-are, bits-are, all-frames}
 use Rattle.promises.proofs.NewBlocks.{new-some, new-raw, new-differences}
 
@@ -59,7 +57,7 @@ fresh (Raw b) n = n
 fresh (Differences b) n = min n 511
 fresh Beyond n = 0
 
-pub fresh-most : (c : Coding) (n : ℕ) → n ≤ 512 → fresh c n ≤ 512
+fresh-most : (c : Coding) (n : ℕ) → n ≤ 512 → fresh c n ≤ 512
 fresh-most (Raw b) n l = l
 fresh-most (Differences b) n l = omega arith
 fresh-most Beyond n l = omega arith
@@ -79,53 +77,63 @@ stays-held base run xs l (Differences b) e w j p =
 stays-held base run xs l Beyond e w j p = never e
 
 -- ---- a block that is refused by 36; xs are the active samples of its channel
-module _ (depth : ℕ) (r : List ℕ) (xs : List ℤ) (k : ℕ) (said : checkReencodeBlock depth r xs ≡ No (WidthTooSmall k)) where
+module _ (depth : ℕ) (r : List ℕ) (xs : List ℤ) (k : ℕ) where
   abbrev coded : Coding
   coded = codingOf depth r
 
-  -- its other checks pass
-  known-fit : (isBeyond coded ≡ false) × (checkFit (widthOf coded) (valuesFor depth r xs) ≡ No (WidthTooSmall k))
-  unfolding checkReencodeBlock
-  known-fit =
-      let x = WidthTooSmall k in
-      let e2 = said-after x _ _ (unsaid x _ _ refl) said .1 in
-      let e3 = said-after x _ _ (unsaid x _ _ refl) e2 .1 in
-      let e4 = said-after x _ _ (unsaid x _ _ refl) e3 .1 in
-      let e5 = said-after x _ _ (unsaid x _ _ refl) e4 .1 in
-      let e6 = said-after x _ _ (unsaid x _ _ refl) e5 .1 in
-      let e7 = said-after x _ _ (unsaid x _ _ refl) e6 in
-      (passed _ _ (e7 .0), said-after x _ _ (unsaid x _ _ refl) (e7 .1) .1)
+  abbrev FirstOf : Type 0
+  FirstOf = FirstMisfit (widthOf coded) (valuesFor depth r xs) k
 
-  pub block-first : FirstMisfit (widthOf coded) (valuesFor depth r xs) k
-  block-first = misfit-told (widthOf coded) (valuesFor depth r xs) k (known-fit .1)
+  itself-unsaid : Unsaid (WidthTooSmall k) (checkTemplateBlock depth r)
+  unfolding checkTemplateBlock
+  itself-unsaid =
+      let x = WidthTooSmall k in
+      unsaid x _ _ refl nor unsaid x _ _ refl nor unsaid x _ _ refl nor unsaid x _ _ refl
+      nor unsaid x _ _ refl nor unsaid x _ _ refl nor unsaid x _ _ refl
+
+  -- its own checks pass, and k is its first misfit
+  block-so : checkReencodeBlock depth r xs ≡ No (WidthTooSmall k) → (checkTemplateBlock depth r ≡ Fine) × FirstOf
+  unfolding checkReencodeBlock
+  block-so said =
+      let e = said-after (WidthTooSmall k) _ _ itself-unsaid said in
+      (e .0, misfit-told (widthOf coded) (valuesFor depth r xs) k (e .1))
+
+  so-block : checkTemplateBlock depth r ≡ Fine → FirstOf → checkReencodeBlock depth r xs ≡ No (WidthTooSmall k)
+  unfolding checkReencodeBlock
+  so-block fine f = fine and-then tells-misfit (widthOf coded) (valuesFor depth r xs) k f
 
   -- the place is that of a new value
-  pub block-fresh : 1 ≤ depth → length xs ≤ 512 → k < fresh coded (length xs)
+  block-fresh : checkTemplateBlock depth r ≡ Fine → FirstOf → 1 ≤ depth → length xs ≤ 512 → k < fresh coded (length xs)
   unfolding valuesFor samplesOf codingOf
-  block-fresh d l =
+  block-fresh fine f d l =
       let b = widthOf coded in
+      let known = template-told depth r fine .within in
       lt-of-not-le (λ (p : fresh coded (length xs) ≤ k).
-      let held = stays-held (baseOf r) (drop 16 r) xs l coded (known-fit .0) (width-some depth (bitsOf r) d (known-fit .0)) k p in
-      never (sym (lt-ltb (mag (getD (valuesFor depth r xs) k (pos 0))) (2 ^ (b - 1)) held) ∙ block-first .fails))
+      let held = stays-held (baseOf r) (drop 16 r) xs l coded known (width-some depth (bitsOf r) d known) k p in
+      never (sym (lt-ltb (mag (getD (valuesFor depth r xs) k (pos 0))) (2 ^ (b - 1)) held) ∙ f .fails))
 
 -- ---- the file: samples s with the settings p, and the template t
 module _ (p : PcmSpec) (s : List ℤ) (t : List ℕ) where
   abbrev h : Fields
   h = fieldsOf t
 
-  abbrev old : ℕ → List ℕ
+  -- the template's group g, and the samples of its frames
+  abbrev pub old : ℕ → List ℕ
   old g = groupBytes t h g
+
+  abbrev pub new : ℕ → List ℤ
+  new g = groupIn (h .channels) s g
 
   -- what is said of group g
   abbrev pub groupSays : ℕ → Checked
-  groupSays g = checkReencodeGroup (h .depth) (h .channels) (old g) (groupIn (h .channels) s g)
+  groupSays g = checkReencodeGroup (h .depth) (h .channels) (old g) (new g)
 
   -- of its channel c: what begins with the template's block, and the samples, mid or side where that applies
   abbrev pub blockAt : ℕ → ℕ → List ℕ
   blockAt g c = fromBlock (h .depth) (old g) c
 
   abbrev pub activeAt : ℕ → ℕ → List ℤ
-  activeAt g c = getD (activeIn (h .channels) (old g) (groupIn (h .channels) s g)) c []
+  activeAt g c = getD (activeIn (h .channels) (old g) (new g)) c []
 
   -- what is said of that block
   abbrev pub blockSays : ℕ → ℕ → Checked
@@ -138,7 +146,7 @@ module _ (p : PcmSpec) (s : List ℤ) (t : List ℕ) where
   abbrev pub packedAt : ℕ → ℕ → List ℤ
   packedAt g c = valuesFor (h .depth) (blockAt g c) (activeAt g c)
 
-  -- k is the place of the first misfit in the order group, channel, place
+  -- k is the place of the first misfit in the order group, channel, place, and nothing is refused before it
   pub record Misfit (k : ℕ) : Type 0 where
     pub group : ℕ
     pub channel : ℕ
@@ -146,21 +154,51 @@ module _ (p : PcmSpec) (s : List ℤ) (t : List ℕ) where
     pub earlier : (checkReencoder p then checkSamples p s then checkTemplate p s t) ≡ Fine
     pub in-file : group < groupsOf (h .frames)
     pub groups-pass : (g : ℕ) → g < group → groupSays g ≡ Fine
-    pub group-says : groupSays group ≡ No (WidthTooSmall k)
+    -- of the group 43, 34 and 35 pass
+    pub long : 12 ≤ length (old group)
+    pub stereo : (midBit (old group) && not (eqb (h .channels) 2)) ≡ false
+    pub even : (midBit (old group) && not (parity (unwoven (h .channels) (new group)))) ≡ false
     pub in-group : channel < h .channels
     pub channels-pass : (c : ℕ) → c < channel → blockSays group c ≡ Fine
-    pub block-says : blockSays group channel ≡ No (WidthTooSmall k)
+    -- of the template's block 1, 3, 44, 45, 4 and 1 pass
+    pub block-passes : checkTemplateBlock (h .depth) (blockAt group channel) ≡ Fine
     -- the width does not hold value k, and holds all before it
     pub first : FirstMisfit (widthOf (codingAt group channel)) (packedAt group channel) k
-    -- it is a new value: one of an active sample, and never the last difference
-    pub new-value : k < fresh (codingAt group channel) (active (h .frames) group)
-    pub below : k < 512
 
-  -- ---- no other check says 36
   module _ (k : ℕ) where
     abbrev x : Refusal
     x = WidthTooSmall k
 
+    -- ---- what is told is a new value's place
+    module _ (m : Misfit k) where
+      abbrev g : ℕ
+      g = m .group
+
+      -- the block has as many active samples as the group has active frames
+      active-is : (1 ≤ h .depth) × (length (activeAt g (m .channel)) ≡ active (h .frames) g)
+      unfolding active
+      active-is =
+          let rest = others-fine _ _ (m .earlier) in
+          let d = others-fine _ _ rest in
+          let ok = reencoder-ok p (first-fine _ _ (m .earlier)) in
+          let n = channels-are p s t d in
+          let w = bits-are p s t d in (
+            omega (arith, ok .low),
+            actives-long (h .channels) (old g) (m .stereo) (active (h .frames) g) (omega (arith, ok .some)) (new g)
+                (group-length (h .channels) (h .frames) s (all-frames p s t d (first-fine _ _ rest)) g) (m .channel) (m .in-group),
+          )
+
+      pub misfit-new : k < fresh (codingAt g (m .channel)) (active (h .frames) g)
+      unfolding active
+      misfit-new =
+          subst (λ (n : ℕ). k < fresh (codingAt g (m .channel)) n) (active-is .1)
+          (block-fresh (h .depth) (blockAt g (m .channel)) (activeAt g (m .channel)) k (m .block-passes) (m .first) (active-is .0) (omega (arith, active-is .1)))
+
+      pub misfit-below : k < 512
+      unfolding active
+      misfit-below = omega (arith, misfit-new, fresh-most (codingAt g (m .channel)) (active (h .frames) g) (omega arith))
+
+    -- ---- no other check says 36
     template-unsaid : Unsaid x (checkTemplate p s t)
     unfolding checkTemplate checkSame checkBounds checkRising
     template-unsaid =
@@ -173,56 +211,47 @@ module _ (p : PcmSpec) (s : List ℤ) (t : List ℕ) where
     unfolding checkReencoder
     reencoder-unsaid = spec-unsaid x refl _ _ p
 
-    -- ---- a group that says it: 34 passed, and its first block that is refused says it
-    module _ (g : ℕ) (said : groupSays g ≡ No x) where
-      in-group-g : ((midBit (old g) && not (eqb (h .channels) 2)) ≡ false) × FirstRefuses (blockSays g) (h .channels) x
-      unfolding checkReencodeGroup
-      in-group-g =
-          let e2 = said-after x _ _ (unsaid x _ _ refl) said .1 in
-          let e3 = said-after x _ _ (unsaid x _ _ refl) e2 in
-          let e4 = said-after x _ _ (unsaid x _ _ refl) (e3 .1) .1 in
-          (passed _ _ (e3 .0), refusal-first (blockSays g) (h .channels) x (said-before x _ _ (unsaid x _ _ refl) e4))
-
-      -- where the samples are the template's frames, the place is that of a new value
-      new-in : checkReencoder p ≡ Fine → checkSamples p s ≡ Fine → checkTemplate p s t ≡ Fine → (c : ℕ) → c < h .channels → blockSays g c ≡ No x
-          → k < fresh (codingAt g c) (active (h .frames) g)
-      unfolding active
-      new-in a b d c l refused =
-          let ok = reencoder-ok p a in
-          let n = channels-are p s t d in
-          let w = bits-are p s t d in
-          let q = actives-long (h .channels) (old g) (in-group-g .0) (active (h .frames) g) (omega (arith, ok .some)) (groupIn (h .channels) s g)
-          (group-length (h .channels) (h .frames) s (all-frames p s t d b) g) c l in
-          subst (λ (m : ℕ). k < fresh (codingAt g c) m) q
-          (block-fresh (h .depth) (blockAt g c) (activeAt g c) k refused (omega (arith, ok .low)) (omega arith))
-
     -- ---- 36 with the place k, and what it tells
     module _ (room : ℕ) where
       pub misfit-so : checkReencodeInto p s t room ≡ No x → Misfit k
-      unfolding checkReencodeInto checkReencode active
+      unfolding checkReencodeInto checkReencode checkReencodeGroup
       misfit-so said =
           let a = said-before x _ _ (unsaid x _ _ refl) said in
           let b = said-after x _ _ reencoder-unsaid a in
           let c = said-after x _ _ (samples-unsaid x refl refl refl p s) (b .1) in
           let d = said-after x _ _ template-unsaid (c .1) in
           let f = refusal-first groupSays (groupsOf (h .frames)) x (d .1) in
-          let i = in-group-g (f .at) (f .refuses) in
-          let q = i .1 in
-          let new = new-in (f .at) (f .refuses) (b .0) (c .0) (d .0) (q .at) (q .below) (q .refuses) in
+          let e1 = said-after x _ _ (unsaid x _ _ refl) (f .refuses) in
+          let e2 = said-after x _ _ (unsaid x _ _ refl) (e1 .1) in
+          let e3 = said-after x _ _ (unsaid x _ _ refl) (e2 .1) in
+          let q = refusal-first (blockSays (f .at)) (h .channels) x (said-before x _ _ (unsaid x _ _ refl) (e3 .1)) in
+          let block = block-so (h .depth) (blockAt (f .at) (q .at)) (activeAt (f .at) (q .at)) k (q .refuses) in
           record {
             group = f .at;
             channel = q .at;
             earlier = (b .0) and-then (c .0) and-then (d .0);
             in-file = f .below;
             groups-pass = λ g l. order-fine groupSays g (f .at) l (f .before);
-            group-says = f .refuses;
+            long = ltb-false (length (old (f .at))) 12 (passed _ _ (e1 .0));
+            stereo = passed _ _ (e2 .0);
+            even = passed _ _ (e3 .0);
             in-group = q .below;
             channels-pass = λ c l. order-fine (blockSays (f .at)) c (q .at) l (q .before);
-            block-says = q .refuses;
-            first = block-first (h .depth) (blockAt (f .at) (q .at)) (activeAt (f .at) (q .at)) k (q .refuses);
-            new-value = new;
-            below = omega (arith, new, fresh-most (codingAt (f .at) (q .at)) (active (h .frames) (f .at)) (omega arith));
+            block-passes = block .0;
+            first = block .1;
           }
+
+      -- the group of the misfit says it
+      so-group : (m : Misfit k) → groupSays (m .group) ≡ No x
+      unfolding checkReencodeGroup _then_
+      so-group m =
+          let says = so-block (h .depth) (blockAt (m .group) (m .channel)) (activeAt (m .group) (m .channel)) k (m .block-passes) (m .first) in
+          let before = in-order (blockSays (m .group)) (m .channel) (m .channels-pass) in
+          let f = order-refuses (blockSays (m .group)) (h .channels) x (record { at = m .channel; below = m .in-group; before = before; refuses = says }) in
+          pass _ _ (le-ltb (length (old (m .group))) 12 (m .long))
+          and-then pass _ _ (m .stereo)
+          and-then pass _ _ (m .even)
+          and-then rw f refl
 
       pub so-misfit : Misfit k → checkReencodeInto p s t room ≡ No x
       unfolding checkReencodeInto checkReencode _then_
@@ -231,5 +260,6 @@ module _ (p : PcmSpec) (s : List ℤ) (t : List ℕ) where
           let rest = others-fine (checkReencoder p) (checkSamples p s then checkTemplate p s t) (m .earlier) in
           let b = first-fine (checkSamples p s) (checkTemplate p s t) rest in
           let c = others-fine (checkSamples p s) (checkTemplate p s t) rest in
-          let f = order-refuses groupSays (groupsOf (h .frames)) x (record { at = m .group; below = m .in-file; before = in-order groupSays (m .group) (m .groups-pass); refuses = m .group-says }) in
+          let before = in-order groupSays (m .group) (m .groups-pass) in
+          let f = order-refuses groupSays (groupsOf (h .frames)) x (record { at = m .group; below = m .in-file; before = before; refuses = so-group m }) in
           rw (a, b, c, f) refl

@@ -228,7 +228,8 @@ module _ (base : ℤ) (run t : List ℕ) where
   decode-new sb xs some lx fx Beyond r e w h = never e
 
 -- ---- the template's block that r begins with, with the active samples xs
-module _ (depth : ℕ) (low : 1 ≤ depth) (r : List ℕ) (xs : List ℤ) (some : 1 ≤ length xs) (lx : length xs ≤ 512) (fx : Fit xs) (ok : Template depth r xs) where
+module _ (depth : ℕ) (low : 1 ≤ depth) (r : List ℕ) (xs : List ℤ) (some : 1 ≤ length xs) (lx : length xs ≤ 512) (fx : Fit xs) (ok : Template depth r)
+    (held : AllHold (widthOf (codingOf depth r)) (valuesFor depth r xs)) where
   abbrev c : Coding
   c = codingOf depth r
 
@@ -288,7 +289,7 @@ module _ (depth : ℕ) (low : 1 ≤ depth) (r : List ℕ) (xs : List ℤ) (some 
         samples = λ t.
             ap (λ (k : Coding). decoded k (baseOf (reencodedBlock depth r xs ++ t)) (drop 16 (reencodedBlock depth r xs ++ t))) (coding-same t)
             ∙ ap₂ (λ (l : List ℕ). decoded c (value 32 (num 256 l))) (base-new t) (run-new t)
-            ∙ decode-new (baseOf r) (drop 16 r) t (value-fits (numAt 4 4 r)) xs some lx fx c r (ok .within) wide (ok .fit);
+            ∙ decode-new (baseOf r) (drop 16 r) t (value-fits (numAt 4 4 r)) xs some lx fx c r (ok .within) wide held;
       }
 
   -- ---- the new block as a template's, with other samples, as many
@@ -301,7 +302,7 @@ module _ (depth : ℕ) (low : 1 ≤ depth) (r : List ℕ) (xs : List ℤ) (some 
     values-same zs q =
         ap (λ (k : Coding). newValues k (samplesOf depth again) (drop 16 again) zs) (coding-same t)
         ∙ ap₂ (λ (o : List ℤ) (l : List ℕ). newValues c o l zs) (new-reads .samples t) (run-new t)
-        ∙ values-again (baseOf r) (drop 16 r) t xs lx zs q c (ok .within) wide (ok .fit)
+        ∙ values-again (baseOf r) (drop 16 r) t xs lx zs q c (ok .within) wide held
 
     pub block-same : (zs : List ℤ) → length zs ≡ length xs → reencodedBlock depth again zs ≡ reencodedBlock depth r zs
     unfolding reencodedBlock
@@ -310,8 +311,8 @@ module _ (depth : ℕ) (low : 1 ≤ depth) (r : List ℕ) (xs : List ℤ) (some 
         ∙ ap₂ (λ (a b : List ℕ). a ++ (b ++ (from 8 8 again ++ packing (widthOf c) (valuesFor depth again zs)))) (mark-same t) (base-again c again r xs zs (base-new t))
         ∙ ap₂ (λ (w : List ℕ) (vs : List ℤ). take 4 r ++ (baseFor c r zs ++ (w ++ packing (widthOf c) vs))) (word-same t 0 8 (omega arith)) (values-same zs q)
 
-    -- it passed as one with xs
-    new-template : Template depth again xs
+    -- it passes as the template's did
+    new-template : Template depth again
     unfolding numAt
     new-template =
         let a = length-append (reencodedBlock depth r xs) t in
@@ -322,11 +323,10 @@ module _ (depth : ℕ) (low : 1 ≤ depth) (r : List ℕ) (xs : List ℤ) (some 
           flags = rw (new-reads .flags-word t) (ok .flags);
           within = new-reads .within t;
           sized = omega (arith, new-reads .size t);
-          fit = rw (coding-same t, values-same xs refl) (ok .fit);
         }
 
     pub check-same : (zs : List ℤ) → length zs ≡ length xs → checkReencodeBlock depth again zs ≡ checkReencodeBlock depth r zs
     check-same zs q =
-        fit-decides depth again xs zs new-template
+        fit-decides depth again zs new-template
         ∙ ap₂ (λ (k : Coding) (vs : List ℤ). checkFit (widthOf k) vs) (coding-same t) (values-same zs q)
-        ∙ sym (fit-decides depth r xs zs ok)
+        ∙ sym (fit-decides depth r zs ok)

@@ -14,13 +14,14 @@ use lib.Dec.{ltb, eqb, eqb·suc-zero}
 use borrow.Author.Tests.{le-ltb}
 use Rattle.format.specs.Lists.{tab, joined, same}
 use Rattle.format.specs.Numbers.{num, numAt, Below}
-use Rattle.format.specs.Blocks.{blockMark, isBlock, midBit, floatBit, sizeOf, samplesOf, fromBlock}
+use Rattle.format.specs.Packed.{widthOf}
+use Rattle.format.specs.Blocks.{blockMark, isBlock, midBit, floatBit, codingOf, sizeOf, samplesOf, fromBlock}
 use Rattle.format.specs.MidSide.{leftRight}
 use Rattle.format.specs.Refusals.{refuse}
 use Rattle.format.specs.Units.{active}
 use Rattle.format.specs.Decoding.{isFloat, checkBlock, checkGroup, coded, channelsOf, woven, groupSamples}
 use Rattle.format.specs.Encoding.{unwoven, midSide, parity}
-use Rattle.format.specs.Reencoding.{reencodedBlock, checkReencodeBlock, activeIn, checkReencodeGroup, reencodedGroup}
+use Rattle.format.specs.Reencoding.{valuesFor, reencodedBlock, checkReencodeBlock, activeIn, checkReencodeGroup, reencodedGroup}
 use Rattle.format.specs.declared.refusals.Refusal.the-variants.{NotStereo, ParityDiffers, ShortGroup, TemplateBytesLeft}
 use Rattle.format.specs.declared.refusals.Checked.the-variants.{Fine}
 use Rattle.format.specs.declared.settings.SampleFormat.the-variants.{Pcm}
@@ -75,8 +76,11 @@ module _ {h : Fields} {g : ℕ} {bs : List ℕ} {s : List ℤ} (ok : Accepted h 
   abbrev two-ok : midBit bs ≡ true → n ≡ 2
   two-ok = T.two-ok (h .depth) n bs s (ok .fine)
 
-  abbrev blocks-ok : (c : ℕ) → c < n → Template (h .depth) (r c) (getD chans c [])
+  abbrev blocks-ok : (c : ℕ) → c < n → Template (h .depth) (r c)
   blocks-ok = T.blocks-ok (h .depth) n bs s (ok .fine)
+
+  abbrev fits-ok : (c : ℕ) → c < n → AllHold (widthOf (codingOf (h .depth) (r c))) (valuesFor (h .depth) (r c) (getD chans c []))
+  fits-ok = T.fits-ok (h .depth) n bs s (ok .fine)
 
   abbrev none-left : length (r n) ≡ 0
   none-left = T.none-left (h .depth) n bs s (ok .fine)
@@ -118,7 +122,7 @@ module _ {h : Fields} {g : ℕ} {bs : List ℕ} {s : List ℤ} (ok : Accepted h 
   chan-fit c q = fit (h .depth) (ok .high) (getD chans c []) (level .hold c q)
 
   reads : (c : ℕ) → c < n → Reads (h .depth) (flags c) (X c) (B c)
-  reads c q = new-reads (h .depth) (ok .low) (r c) (getD chans c []) (chan-some c q) (chan-few c q) (chan-fit c q) (blocks-ok c q)
+  reads c q = new-reads (h .depth) (ok .low) (r c) (getD chans c []) (chan-some c q) (chan-few c q) (chan-fit c q) (blocks-ok c q) (fits-ok c q)
 
   -- ---- it decodes to the samples
   flags-mid : midBit (joined B n) ≡ midBit bs
@@ -226,7 +230,7 @@ module _ {h : Fields} {g : ℕ} {bs : List ℕ} {s : List ℤ} (ok : Accepted h 
         then-same λ a. ap (λ (b : Bool). refuse (b && not (parity (unwoven n z))) ParityDiffers) flags-mid
         then-same λ a. order-cong _ _ n
         (λ c q. in-group (checkReencodeBlock (h .depth)) c q
-        (λ t. check-same (h .depth) (ok .low) (r c) (getD chans c []) (chan-some c q) (chan-few c q) (chan-fit c q) (blocks-ok c q) t (getD others c []) (others-long c q)))
+        (λ t. check-same (h .depth) (ok .low) (r c) (getD chans c []) (chan-some c q) (chan-few c q) (chan-fit c q) (blocks-ok c q) (fits-ok c q) t (getD others c []) (others-long c q)))
         then-same λ a. ap (λ (x : ℕ). refuse (not (eqb x 0)) TemplateBytesLeft) (ap length (rest-is h flags X B reads n (omega arith) ∙ drop-length (joined B n)) ∙ sym none-left)
 
     -- and gives the same
@@ -235,7 +239,7 @@ module _ {h : Fields} {g : ℕ} {bs : List ℕ} {s : List ℤ} (ok : Accepted h 
     group-same =
         joined-cong _ _ n
         (λ c q. in-group (reencodedBlock (h .depth)) c q
-        (λ t. block-same (h .depth) (ok .low) (r c) (getD chans c []) (chan-some c q) (chan-few c q) (chan-fit c q) (blocks-ok c q) t (getD others c []) (others-long c q)))
+        (λ t. block-same (h .depth) (ok .low) (r c) (getD chans c []) (chan-some c q) (chan-few c q) (chan-fit c q) (blocks-ok c q) (fits-ok c q) t (getD others c []) (others-long c q)))
 
   -- ---- with the template's own samples: S c are those of channel c as they are coded
   abbrev S : ℕ → List ℤ

@@ -21,11 +21,12 @@ use Rattle.format.specs.Refusals.{refuse, _then_}
 use Rattle.format.specs.Answers.{filled}
 use Rattle.format.specs.Fit.{checkFit}
 use Rattle.format.specs.Encoding.{firstValue}
-use Rattle.format.specs.Reencoding.{valuesFor, baseFor, reencodedBlock, checkReencodeBlock}
+use Rattle.format.specs.Reencoding.{valuesFor, baseFor, reencodedBlock, checkTemplateBlock, checkReencodeBlock}
 use Rattle.format.specs.declared.packed.Coding.{Coding}
 use Rattle.format.specs.declared.packed.Coding.the-variants.{Differences, Raw, Beyond}
 use Rattle.format.specs.declared.refusals.Checked.{Checked}
 use Rattle.format.specs.declared.refusals.Checked.the-variants.{Fine, No}
+use Rattle.format.specs.declared.refusals.Refusal.{Refusal}
 use Rattle.format.specs.declared.refusals.Refusal.the-variants.{TooShort, BitsWord, TemplateFlags}
 use Rattle.laws.proofs.Parts.{length-from, meet}
 use Rattle.laws.proofs.Digits.{length-le}
@@ -40,6 +41,11 @@ use Rattle.block.proofs.Headers.{bits-are, coding-is}
 -- ---- the checks
 
 module _ (depth : ℕ) (r : List ℕ) (xs : List ℤ) where
+  -- what the block's own checks refuse
+  pub itself-refused : (x : Refusal) → No x ≡ checkTemplateBlock depth r → No x ≡ checkReencodeBlock depth r xs
+  unfolding checkReencodeBlock _then_
+  itself-refused x e = rw (← e)
+
   -- a header with the mark, and its bits word
   module _ (long : 16 ≤ length r) (m : Bool) (mark : m ≡ isBlock r) (marked : m ≡ true) (w : ℕ) (word : w ≡ numAt 8 2 r) where
     -- of two bits or more
@@ -49,14 +55,14 @@ module _ (depth : ℕ) (r : List ℕ) (xs : List ℤ) where
       flags-are = sym (ap (λ (x : BlockHeader). x .flags) header)
 
       pub other-flags : 1 < b .flags → No TemplateFlags ≡ checkReencodeBlock depth r xs
-      unfolding checkReencodeBlock refuse _then_
+      unfolding checkReencodeBlock checkTemplateBlock refuse _then_
       other-flags l = rw (le-ltb (length r) 16 long, ← mark, marked, ← word, ne-eqb w 0 not0, ne-eqb w 1 not1, flags-are, lt-ltb 1 (b .flags) l)
 
       -- with no flag but mid/side
       module _ (known-flags : b .flags ≤ 1) (fits : SFits w16 (b .bits)) (k : Coding) (coded : k ≡ coding depth (toZ w16 (ofZ w16 (b .bits)))) where
         -- what is left to check
-        others : (refuse (isBeyond k) (BitsWord (bitsOf r)) then refuse (ltb (length r) (sizeOf depth r)) TooShort then checkFit (widthOf k) (valuesFor depth r xs)) ≡ checkReencodeBlock depth r xs
-        unfolding checkReencodeBlock refuse _then_
+        others : ((refuse (isBeyond k) (BitsWord (bitsOf r)) then refuse (ltb (length r) (sizeOf depth r)) TooShort) then checkFit (widthOf k) (valuesFor depth r xs)) ≡ checkReencodeBlock depth r xs
+        unfolding checkReencodeBlock checkTemplateBlock refuse _then_
         others =
             rw (le-ltb (length r) 16 long, ← mark, marked, ← word, ne-eqb w 0 not0, ne-eqb w 1 not1, flags-are, le-ltb 1 (b .flags) known-flags, coding-is depth r b header fits k coded)
 
@@ -126,7 +132,7 @@ header-room depth r n h = omega arith
 
 -- what passed
 module _ (depth : ℕ) (r : List ℕ) (xs : List ℤ) (fine : checkReencodeBlock depth r xs ≡ Fine) where
-  told : Template depth r xs
+  told : Template depth r
   told = template-ok depth r xs fine
 
   pub passed-header : 16 ≤ length r
@@ -136,7 +142,7 @@ module _ (depth : ℕ) (r : List ℕ) (xs : List ℤ) (fine : checkReencodeBlock
   passed-whole some most = record { some = some; most = most; header = told .head; known = told .within; run = told .sized }
 
   passed-fit : checkFit (widthOf (codingOf depth r)) (valuesFor depth r xs) ≡ Fine
-  passed-fit = sym (fit-decides depth r xs xs told) ∙ fine
+  passed-fit = sym (fit-decides depth r xs told) ∙ fine
 
   module _ (b : BlockHeader) (header : b ≡ blockHeader r) (fits : SFits w16 (b .bits)) (k : Coding) (coded : k ≡ coding depth (toZ w16 (ofZ w16 (b .bits)))) where
     is : k ≡ codingOf depth r

@@ -41,7 +41,7 @@ module _ (depth n : ℕ) (bs : List ℕ) (a : List (List ℤ)) where
   -- channel c's block begins at `at`, and the new ones before it are as long
   module _ (c at : ℕ) (begins : Begins depth bs c at) (so-far : at ≡ length (newBefore c)) where
     module _ (C : ℕ) (fine : inOrder check C ≡ Fine) (below : c < C) where
-      here : Template depth (fromBlock depth bs c) (take n (getD a c []))
+      here : Template depth (fromBlock depth bs c)
       here = template-ok depth (fromBlock depth bs c) (take n (getD a c [])) (order-fine check c C below fine)
 
       lent : part at bs ≡ fromBlock depth bs c

@@ -68,11 +68,8 @@ fn refused(number: u32, told: u16) -> Recorded
 // What the list says of a call: it counts samples there, 4 bytes each, or the bytes of a file.
 pub fn read_recorded(list: i32, counts_samples: bool) -> Recorded {
     let number = read_u8(list);
-    if number == BITS_WORD {
-        return refused(BITS_WORD, read_u16(list));
-    }
-    if number == WIDTH_TOO_SMALL {
-        return refused(WIDTH_TOO_SMALL, read_u16(list));
+    if number == BITS_WORD || number == WIDTH_TOO_SMALL {
+        return refused(number, read_u16(list));
     }
     if number != ACCEPTED {
         return refused(number, 0);

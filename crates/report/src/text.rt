@@ -32,12 +32,20 @@ pub fn print_format(format: SampleFormat) {
     }
 }
 
-// Prints the refusal's number. Number 4 also tells the bits word that was read.
+// Prints the refusal's number, and what it tells besides: 4 the bits word that was read, 36 the place of the value or
+// difference in its block.
 pub fn print_refusal(r: Refusal) {
     print(b"refused ");
     print_number(r.number() as u64);
-    if let Refusal::BitsWord(bits) = r {
-        print(b" ");
-        print_signed(bits);
+    match r {
+        Refusal::BitsWord(bits) => {
+            print(b" ");
+            print_signed(bits);
+        }
+        Refusal::WidthTooSmall(place) => {
+            print(b" ");
+            print_number(place as u64);
+        }
+        _ => {}
     }
 }

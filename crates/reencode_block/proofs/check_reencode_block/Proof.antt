@@ -1,27 +1,27 @@
 -- The tests are the definition's, in its order; past them the block is whole, so its values can be read.
 use borrow.Author.Needs.{needs}
-use Rattle.format.specs.Reencoding.{checkReencodeBlock}
+use Rattle.format.specs.Reencoding.{checkTemplateBlock}
 use Rattle.laws.proofs.Chain.{chain, flags}
 use Rattle.block.proofs.Checking.{known-by}
-use Rattle.reencode_block.proofs.Blocks.{other-flags, bits-beyond, no-values, fit-says, coding-known, known-1, known-32}
+use Rattle.reencode_block.proofs.Blocks.{itself-refused, other-flags, bits-beyond, no-values, fit-says, coding-known, known-1, known-32}
 use Rattle.reencode_block.proofs.check_reencode_block.Statement.{statement}
 use Rattle.reencode_block.proofs.check_reencode_block.Tie as tie
 
 returns : tie.Need-returns
-unfolding checkReencodeBlock
-returns c = search chain
+unfolding checkTemplateBlock
+returns c = itself-refused _ _ _ _ (search chain)
 
 returns-2 : tie.Need-returns-2
-unfolding checkReencodeBlock
-returns-2 c = search (chain, flags)
+unfolding checkTemplateBlock
+returns-2 c = itself-refused _ _ _ _ (search (chain, flags))
 
 returns-3 : tie.Need-returns-3
-unfolding checkReencodeBlock
-returns-3 c = search (chain, flags)
+unfolding checkTemplateBlock
+returns-3 c = itself-refused _ _ _ _ (search (chain, flags))
 
 returns-4 : tie.Need-returns-4
-unfolding checkReencodeBlock
-returns-4 c = search (chain, flags)
+unfolding checkTemplateBlock
+returns-4 c = itself-refused _ _ _ _ (search (chain, flags))
 
 returns-5 : tie.Need-returns-5
 returns-5 c = search (needs, other-flags)

@@ -1,4 +1,5 @@
-//! The crate over the archive, held to the list of recorded answers (`host/recorded`): all but the steps of walks, which it has no call for.
+//! The crate over the archive, held to the list of recorded answers (`host/recorded`): all but the steps of walks, which it has no call for, and the
+//! places of 36, which it does not tell.
 #[allow(dead_code)]
 #[path = "../../../recorded/draw.rs"]
 mod draw;
