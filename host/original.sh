@@ -43,6 +43,6 @@ build_original() {
 # build PROGRAM WORK: a program over the original, both in the folder WORK.
 build() {
     local program=$1 work=$2 words=(-C opt-level=1 -C debug-assertions=on)
-    build_original "$work" "${words[@]}"
+    build_original "$work" "${words[@]}" || return
     "$rustc" --edition 2021 "${words[@]}" --extern "ncw=$work/libncw.rlib" --out-dir "$work" "$program"
 }

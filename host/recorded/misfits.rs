@@ -174,7 +174,8 @@ fn of_what_is_behind() -> Vec<Reencoding> {
     sets.map(behind).into()
 }
 
-/// In each width the highest and the lowest that fit, and then one that doesn't. Differences of bits 1 are refused by 44.
+/// In each width up to 24 the highest and the lowest that fit, and then one that doesn't. Raw, 24 bits hold every sample; differences of bits 1 are
+/// refused by 44.
 fn of_widths() -> Vec<Reencoding> {
     let values = |width: u32| {
         let [highest, lowest, beyond] = limits(width);

@@ -1,5 +1,5 @@
--- Document 02, L2: 36 tells the place of the first value that does not fit, channel 0's before channel 1's. Each case by
--- computation; cases has others, of two groups among them.
+-- Document 02, L2: 36 tells the place of the first value that does not fit, channel 0's before channel 1's. Each case
+-- by computation; the crate `cases` has others, of two groups among them.
 use Prim.Native.Nat.{ℕ}
 use mathlib.Core.Path.{_≡_, refl}
 use mathlib.Core.List.{List, [], _∷_}

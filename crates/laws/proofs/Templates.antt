@@ -78,7 +78,7 @@ module _ (depth : ℕ) (r : List ℕ) where
     unfolding checkReencodeBlock
     template-ok e = template-told (first-fine _ _ e)
 
-    pub fit-ok : checkReencodeBlock depth r xs ≡ Fine → AllHold width (valuesFor depth r xs)
+    fit-ok : checkReencodeBlock depth r xs ≡ Fine → AllHold width (valuesFor depth r xs)
     unfolding checkReencodeBlock
     fit-ok e = every-holds width (valuesFor depth r xs) (fine-fit width (valuesFor depth r xs) (others-fine _ _ e))
 

@@ -30,7 +30,7 @@ use Rattle.format.specs.declared.settings.PcmSpec.{PcmSpec}
 use Rattle.format.specs.declared.answers.Fields.{Fields}
 use Rattle.laws.proofs.Tests.{never}
 use Rattle.laws.proofs.Checks.{pass, passed, _and-then_, first-fine, others-fine, Unsaid, unsaid, _nor_, said-after, said-before}
-use Rattle.laws.proofs.Checks.{in-order, order-fine, FirstRefuses, order-refuses, refusal-first}
+use Rattle.laws.proofs.Checks.{in-order, order-fine, order-refuses, refusal-first}
 use Rattle.laws.proofs.Signs.{Holds, AllHold, values-hold}
 use Rattle.laws.proofs.Widths.{width-some}
 use Rattle.laws.proofs.Misfits.{FirstMisfit, misfit-told, tells-misfit}
@@ -212,6 +212,19 @@ module _ (p : PcmSpec) (s : List ℤ) (t : List ℕ) where
     reencoder-unsaid = spec-unsaid x refl _ _ p
 
     -- ---- 36 with the place k, and what it tells
+
+    -- the group of the misfit says it
+    so-group : (m : Misfit k) → groupSays (m .group) ≡ No x
+    unfolding checkReencodeGroup _then_
+    so-group m =
+        let says = so-block (h .depth) (blockAt (m .group) (m .channel)) (activeAt (m .group) (m .channel)) k (m .block-passes) (m .first) in
+        let before = in-order (blockSays (m .group)) (m .channel) (m .channels-pass) in
+        let f = order-refuses (blockSays (m .group)) (h .channels) x (record { at = m .channel; below = m .in-group; before = before; refuses = says }) in
+        pass _ _ (le-ltb (length (old (m .group))) 12 (m .long))
+        and-then pass _ _ (m .stereo)
+        and-then pass _ _ (m .even)
+        and-then rw f refl
+
     module _ (room : ℕ) where
       pub misfit-so : checkReencodeInto p s t room ≡ No x → Misfit k
       unfolding checkReencodeInto checkReencode checkReencodeGroup
@@ -240,18 +253,6 @@ module _ (p : PcmSpec) (s : List ℤ) (t : List ℕ) where
             block-passes = block .0;
             first = block .1;
           }
-
-      -- the group of the misfit says it
-      so-group : (m : Misfit k) → groupSays (m .group) ≡ No x
-      unfolding checkReencodeGroup _then_
-      so-group m =
-          let says = so-block (h .depth) (blockAt (m .group) (m .channel)) (activeAt (m .group) (m .channel)) k (m .block-passes) (m .first) in
-          let before = in-order (blockSays (m .group)) (m .channel) (m .channels-pass) in
-          let f = order-refuses (blockSays (m .group)) (h .channels) x (record { at = m .channel; below = m .in-group; before = before; refuses = says }) in
-          pass _ _ (le-ltb (length (old (m .group))) 12 (m .long))
-          and-then pass _ _ (m .stereo)
-          and-then pass _ _ (m .even)
-          and-then rw f refl
 
       pub so-misfit : Misfit k → checkReencodeInto p s t room ≡ No x
       unfolding checkReencodeInto checkReencode _then_

@@ -28,6 +28,7 @@ use Rattle.format.specs.declared.refusals.Checked.{Checked}
 use Rattle.format.specs.declared.refusals.Checked.the-variants.{Fine, No}
 use Rattle.format.specs.declared.refusals.Refusal.{Refusal}
 use Rattle.format.specs.declared.refusals.Refusal.the-variants.{TooShort, BitsWord, TemplateFlags}
+use Rattle.laws.proofs.Chain.{stops-at}
 use Rattle.laws.proofs.Parts.{length-from, meet}
 use Rattle.laws.proofs.Digits.{length-le}
 use Rattle.laws.proofs.Signs.{length-packing}
@@ -43,8 +44,8 @@ use Rattle.block.proofs.Headers.{bits-are, coding-is}
 module _ (depth : ℕ) (r : List ℕ) (xs : List ℤ) where
   -- what the block's own checks refuse
   pub itself-refused : (x : Refusal) → No x ≡ checkTemplateBlock depth r → No x ≡ checkReencodeBlock depth r xs
-  unfolding checkReencodeBlock _then_
-  itself-refused x e = rw (← e)
+  unfolding checkReencodeBlock
+  itself-refused x e = stops-at (checkTemplateBlock depth r) _ refl _ x (sym e)
 
   -- a header with the mark, and its bits word
   module _ (long : 16 ≤ length r) (m : Bool) (mark : m ≡ isBlock r) (marked : m ≡ true) (w : ℕ) (word : w ≡ numAt 8 2 r) where
