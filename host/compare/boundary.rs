@@ -1,2 +1,2 @@
-//! The four calls of the host boundary, as they are.
-pub use ours::boundary::{decode, encode, open, reencode};
+//! The six calls of the host boundary, as they are.
+pub use ours::boundary::{decode, decode_refusal, encode, open, reencode, reencode_refusal};

@@ -34,6 +34,9 @@ mod input;
 mod inputs;
 mod lent;
 mod limits;
+#[allow(dead_code)]
+#[path = "../definitions/located.rs"]
+mod located;
 #[path = "../definitions/misfit.rs"]
 mod misfit;
 #[path = "../definitions/orders.rs"]
@@ -44,6 +47,7 @@ mod picks;
 mod random;
 mod reading;
 mod reencoding;
+mod refusals;
 mod report;
 mod run;
 #[path = "../definitions/samples.rs"]

@@ -53,3 +53,20 @@ pub fn short_group(file: &[u8], channels: usize) -> Option<Vec<u8>> {
     }
     Some(out)
 }
+
+/// The file with so many of its groups, from the first on, which are fewer than it has. Its table ends where it did.
+pub fn first_groups(file: &[u8], groups: u32) -> Option<Vec<u8>> {
+    let number = |at: usize| Bytes(file.get(at..)?).number(4);
+    let (frames, table, start) = (number(16)?, number(20)? as usize, number(24)? as usize);
+    if groups >= frames.div_ceil(512) {
+        return None;
+    }
+    let length = 4 * (groups as usize + 1);
+    let size = number(table + length - 4)?;
+    let mut out = file.to_vec();
+    out.copy_within(table..table + length, start - length);
+    for (at, value) in [(16, 512 * groups), (20, (start - length) as u32), (28, size)] {
+        put(&mut out, at, 4, value.into());
+    }
+    Some(out)
+}

@@ -1,6 +1,7 @@
 //! The cases as antt text: for each a test, and the theorem that it comes out true.
 use crate::asking::{Answer, Question};
-use ncw::PcmSpec;
+use crate::located::{self, Refused};
+use ncw::{PcmSpec, StereoMode};
 use std::fs;
 use std::path::Path;
 
@@ -105,12 +106,46 @@ pub fn module(cases: &[Numbered], outcome: bool) -> String {
 fn test(question: &Question, answer: &Answer, host_too: bool) -> String {
     let (name, call) = asked(question);
     let (end, plain, host) = match answer {
-        Answer::Refused(number, word) => ("Not", format!("{number} {}", integer(*word)), number.to_string()),
+        Answer::Refused(number, word) => {
+            let refused = refused(question, *number, *word);
+            let plain = format!("{number} {} {} {}", integer(*word), refused.group, refused.channel);
+            ("Not", plain, at_host(question, refused))
+        }
         _ => ("", "e".to_string(), "e".to_string()),
     };
-    let at_host =
+    let host =
         if host_too && few(question, answer) { format!(" && host-{name}{end} {host} {call}") } else { String::new() };
-    format!("{}{}    {name}{end} {plain} {call}{at_host}", inputs(question), expected(question, answer))
+    format!("{}{}    {name}{end} {plain} {call}{host}", inputs(question), expected(question, answer))
+}
+
+/// What the reference says, which has to be the Rust's number and word: it tells the group and the channel too.
+fn refused(question: &Question, number: u32, word: i16) -> Refused {
+    let refused = match question {
+        Question::Open(file) => located::opening(file),
+        Question::Decode(file) => located::decoding(file),
+        Question::Encode(p, mode, samples) => {
+            let mode = [StereoMode::Auto, StereoMode::Direct, StereoMode::MidSide].iter().position(|m| m == mode);
+            let mode = mode.expect("one of the three") as u32;
+            located::encoding(samples, p.channels, p.bits_per_sample, p.sample_rate, mode)
+        }
+        Question::Reencode(p, samples, template) => {
+            located::reencoding(samples, p.channels, p.bits_per_sample, p.sample_rate, template)
+        }
+    };
+    let refused = refused.expect("a refusal, since the Rust refuses");
+    assert_eq!((refused.number, refused.told as i16), (number, word), "the reference");
+    refused
+}
+
+/// The number, and of decoding and re-encoding the word that tells where too.
+fn at_host(question: &Question, refused: Refused) -> String {
+    let Refused { number, told, group, channel } = refused;
+    let place = if number == 36 { u64::from(told) } else { 0 };
+    let word = u64::from(number) + (place << 8) + (u64::from(channel) << 24) + (u64::from(group) << 40);
+    match question {
+        Question::Decode(_) | Question::Reencode(..) => format!("{number} {word}"),
+        Question::Open(_) | Question::Encode(..) => number.to_string(),
+    }
 }
 
 /// The test's name, and what it calls the definitions with.

@@ -5,6 +5,8 @@ mod faults;
 mod files;
 mod inputs;
 #[allow(dead_code)]
+mod located;
+#[allow(dead_code)]
 mod misfit;
 mod orders;
 mod placed;

@@ -25,6 +25,18 @@ pub fn first_misfit(samples: &[i32], channels: usize, template: &[u8]) -> Option
     groups.find_map(|(group, samples)| in_group(group, samples, channels, template))
 }
 
+/// The place in one block, which begins at `at` and is there whole; `samples` are those of its group.
+pub fn in_block(
+    samples: &[i32],
+    channels: usize,
+    channel: usize,
+    mid_side: bool,
+    template: &[u8],
+    at: usize,
+) -> Option<usize> {
+    Block::at(template, at).misfit(&stored(samples, channels, channel, mid_side))
+}
+
 fn in_group(group: usize, samples: &[i32], channels: usize, template: &[u8]) -> Option<Misfit> {
     let entry = number(template, number(template, 20, 4) + 4 * group, 4);
     let start = number(template, 24, 4) + entry;

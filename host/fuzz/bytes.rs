@@ -30,6 +30,7 @@ impl Fuzzed for Vec<u8> {
         let file = file.of(self);
         let answer = boundary::open(file);
         boundary::decode(file, samples.room(if answer < REFUSED { answer as usize } else { 0 }));
+        boundary::decode_refusal(file, u64::MAX);
     }
 }
 
@@ -86,6 +87,7 @@ impl Fuzzed for reencoding::Call {
         let (samples, template) = (samples.of(&self.samples), template.of(&self.template));
         let file = file.room(self.template.len());
         boundary::reencode(samples, self.channels, self.depth, self.rate, template, file);
+        boundary::reencode_refusal(samples, self.channels, self.depth, self.rate, template, u64::MAX);
     }
 }
 

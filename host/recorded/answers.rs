@@ -1,14 +1,13 @@
-//! What the list says of a question: the original's answer, with what document 01 adds (38, 39, 50, done) and the place of 36.
-use crate::asking::{Answer, Question as Asking};
+//! What the list says of a question: the original's answer, with what document 01 adds (38, 39, 50, done), and the places of document 02.
+use crate::asking::{ask, Answer, Question as Asking};
 use crate::faults::put;
-use crate::placed::ask;
+use crate::located::{self, Refused};
 use crate::reread::{Given, Question};
 use ncw::{PcmSpec, StereoMode};
 
 #[derive(Clone, PartialEq)]
 pub enum Told {
-    /// The number, and the value told with it: the bits word of 4, the place of 36.
-    Refused(u8, i16),
+    Refused(Refused),
     Done,
     /// The seven header numbers, the group count, and 1 for float or 0.
     Opened([u64; 9]),
@@ -24,7 +23,7 @@ impl Told {
     /// 0 accepted, 255 done, otherwise the number of the refusal.
     pub fn number(&self) -> u8 {
         match self {
-            Told::Refused(number, _) => *number,
+            Told::Refused(refused) => refused.number as u8,
             Told::Done => 255,
             _ => 0,
         }
@@ -33,8 +32,14 @@ impl Told {
     pub fn bytes(&self) -> Vec<u8> {
         let mut out = vec![self.number()];
         match self {
-            Told::Refused(4 | 36, value) => out.extend(value.to_le_bytes()),
-            Told::Refused(..) | Told::Done => {}
+            Told::Refused(refused) => {
+                if matches!(refused.number, 4 | 36) {
+                    out.extend(refused.told.to_le_bytes());
+                }
+                let group = u16::try_from(refused.group).expect("a group that the list can name");
+                out.extend([group, refused.channel].map(u16::to_le_bytes).concat());
+            }
+            Told::Done => {}
             Told::Opened(numbers) => {
                 numbers[..2].iter().for_each(|number| out.extend((*number as u16).to_le_bytes()));
                 numbers[2..8].iter().for_each(|number| out.extend((*number as u32).to_le_bytes()));
@@ -47,8 +52,14 @@ impl Told {
 
     pub fn short(&self) -> String {
         match self {
-            Told::Refused(number @ (4 | 36), value) => format!("{number} ({value})"),
-            Told::Refused(number, _) => number.to_string(),
+            Told::Refused(Refused { number, told, group, channel }) => {
+                let value = match number {
+                    4 => format!(" ({})", *told as i16),
+                    36 => format!(" ({told})"),
+                    _ => String::new(),
+                };
+                format!("{number}{value} at {group}, {channel}")
+            }
             Told::Done => "done".to_string(),
             Told::Opened(numbers) => numbers.map(|number| number.to_string()).join(" "),
             Told::Counted(count, sum) => format!("{count} sum {sum}"),
@@ -66,33 +77,46 @@ fn sum(numbers: &[i32]) -> u32 {
     numbers.iter().fold(0, digit) as u32
 }
 
-fn refused(answer: &Answer) -> Told {
-    match answer {
-        Answer::Refused(number, value) => Told::Refused(*number as u8, *value),
-        _ => panic!("an answer to another question"),
-    }
+/// A refusal that tells nothing but its number, and concerns no group.
+pub fn nowhere(number: u32) -> Told {
+    Told::Refused(Refused { number, told: 0, group: 0, channel: 0 })
+}
+
+/// What the original refuses, with what the reference found: it has to find the same number, and of 4 the same bits word.
+fn refused(answer: &Answer, found: Option<Refused>) -> Option<Told> {
+    let of_original = match answer {
+        Answer::Refused(number, bits) => Some((*number, *bits as u16)),
+        _ => None,
+    };
+    let of_reference = found.map(|found| (found.number, if found.number == 4 { found.told } else { 0 }));
+    assert_eq!(of_original, of_reference, "what the original refuses, and the reference");
+    found.map(Told::Refused)
 }
 
 pub fn opening(file: &[u8]) -> Told {
-    match ask(&Asking::Open(file.to_vec())) {
+    let answer = ask(&Asking::Open(file.to_vec()));
+    let found = refused(&answer, located::opening(file));
+    match answer {
         Answer::Opened(numbers) => Told::Opened(numbers),
-        answer => refused(&answer),
+        _ => found.expect("a refusal"),
     }
 }
 
 /// What is told, and the samples' bytes.
 pub fn reading(file: &[u8], room: usize) -> (Told, Vec<u8>) {
-    match ask(&Asking::Decode(file.to_vec())) {
+    let answer = ask(&Asking::Decode(file.to_vec()));
+    let found = refused(&answer, located::decoding(file));
+    match answer {
         Answer::Samples(samples) => {
             (in_room(&samples, room), samples.iter().flat_map(|sample| sample.to_le_bytes()).collect())
         }
-        answer => (refused(&answer), Vec::new()),
+        _ => (found.expect("a refusal"), Vec::new()),
     }
 }
 
 fn in_room(samples: &[i32], room: usize) -> Told {
     match room < samples.len() {
-        true => Told::Refused(50, 0),
+        true => nowhere(50),
         false => Told::Counted(samples.len() as u32, sum(samples)),
     }
 }
@@ -115,7 +139,7 @@ pub fn stepping(file: &[u8], group: u32, room: usize) -> Told {
     if let Answer::Samples(whole) = ask(&Asking::Decode(file.to_vec())) {
         assert!(step == whole.chunks(before).nth(group as usize), "a step that is no part of the whole decode");
     }
-    step.map_or_else(|| refused(&answer), |samples| in_room(samples, room))
+    refused(&answer, located::step(file, group)).unwrap_or_else(|| in_room(step.expect("samples"), room))
 }
 
 fn behind_a_good_one(file: &[u8], numbers: [u64; 9], group: usize) -> Vec<u8> {
@@ -139,24 +163,40 @@ const MODES: [StereoMode; 3] = [StereoMode::Auto, StereoMode::Direct, StereoMode
 
 /// What is told, and the file.
 pub fn writing(spec: PcmSpec, mode: u32, samples: &[u8], room: usize) -> (Told, Vec<u8>) {
+    let PcmSpec { channels, bits_per_sample: depth, sample_rate: rate } = spec;
     match MODES.get(mode as usize) {
-        None => (Told::Refused(38, 0), Vec::new()),
-        Some(mode) => written(samples, room, |samples| Asking::Encode(spec, *mode, samples)),
+        None => (nowhere(38), Vec::new()),
+        Some(known) => written(samples, room, |samples| {
+            let found = located::encoding(&samples, channels, depth, rate, mode);
+            (Asking::Encode(spec, *known, samples), found)
+        }),
     }
 }
 
 pub fn rewriting(spec: PcmSpec, samples: &[u8], template: &[u8], room: usize) -> (Told, Vec<u8>) {
-    written(samples, room, |samples| Asking::Reencode(spec, samples, template.to_vec()))
+    let PcmSpec { channels, bits_per_sample: depth, sample_rate: rate } = spec;
+    written(samples, room, |samples| {
+        let found = located::reencoding(&samples, channels, depth, rate, template);
+        (Asking::Reencode(spec, samples, template.to_vec()), found)
+    })
 }
 
-fn written(samples: &[u8], room: usize, question: impl FnOnce(Vec<i32>) -> Asking) -> (Told, Vec<u8>) {
+/// `question` is what the original is asked, and what the reference finds.
+fn written(
+    samples: &[u8],
+    room: usize,
+    question: impl FnOnce(Vec<i32>) -> (Asking, Option<Refused>),
+) -> (Told, Vec<u8>) {
     if samples.len() % 4 != 0 {
-        return (Told::Refused(39, 0), Vec::new());
+        return (nowhere(39), Vec::new());
     }
-    match ask(&question(words(samples))) {
-        Answer::Bytes(file) if room < file.len() => (Told::Refused(50, 0), file),
+    let (question, found) = question(words(samples));
+    let answer = ask(&question);
+    let found = refused(&answer, found);
+    match answer {
+        Answer::Bytes(file) if room < file.len() => (nowhere(50), file),
         Answer::Bytes(file) => (Told::Counted(file.len() as u32, sum(&words(&file))), file),
-        answer => (refused(&answer), Vec::new()),
+        _ => (found.expect("a refusal"), Vec::new()),
     }
 }
 

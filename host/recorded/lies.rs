@@ -1,12 +1,13 @@
 //! Answers that are false on purpose, and rooms that are changed on purpose: a program that finds none of them finds nothing.
-use crate::answers::Told;
+use crate::answers::{nowhere, Told};
 use crate::blocks::{filled, raw};
 use crate::encodings::spec;
+use crate::faults::put;
+use crate::located::Refused;
 use crate::noisy::noisy;
 use crate::random::Random;
 use crate::tape::Tape;
 
-const REFUSED: Told = Told::Refused(1, 0);
 const ACCEPTED: Told = Told::Counted(4, 7);
 
 pub fn all(tape: &mut Tape) {
@@ -35,10 +36,16 @@ fn of_opening(tape: &mut Tape, file: &[u8]) {
         tape.lie(move |told, _| wrong_field(told, field));
         tape.open();
     }
-    tape.lie(|told, _| *told = REFUSED);
+    tape.lie(|told, _| *told = nowhere(1));
     tape.open();
+    let mut short = file.to_vec();
+    put(&mut short, 124, 4, file.len() as u64 - 132 - 79);
+    tape.file(&short);
+    lies(tape, &WRONG_PLACES, |tape| tape.open() as u32);
+    lies(tape, &[turned_round], |tape| tape.open() as u32);
     tape.file(&file[..119]);
-    tape.lie(|told, _| *told = Told::Refused(2, 0));
+    lies(tape, &WRONG_PLACES, |tape| tape.open() as u32);
+    tape.lie(|told, _| *told = nowhere(2));
     tape.open();
     tape.lie(|told, _| *told = Told::Opened([1, 16, 44_100, 0, 120, 124, 0, 0, 0]));
     tape.open();
@@ -62,16 +69,37 @@ fn wrong_sum(told: &mut Told, _: &mut u32) {
     }
 }
 
+/// What the refusal was, but for this.
+fn change(told: &mut Told, change: impl FnOnce(&mut Refused)) {
+    match told {
+        Told::Refused(refused) => change(refused),
+        _ => panic!("no refusal"),
+    }
+}
+
 fn wrong_bits(told: &mut Told, _: &mut u32) {
-    *told = Told::Refused(4, 33);
+    change(told, |refused| refused.told = 33);
 }
 
 fn another_number(told: &mut Told, _: &mut u32) {
-    *told = Told::Refused(22, 0);
+    change(told, |refused| refused.number = 22);
+}
+
+/// Another group and another channel: by the lower of the two bytes, and by the higher.
+const WRONG_PLACES: [fn(&mut Told, &mut u32); 4] = [
+    |told, _| change(told, |refused| refused.group ^= 1),
+    |told, _| change(told, |refused| refused.group ^= 256),
+    |told, _| change(told, |refused| refused.channel ^= 1),
+    |told, _| change(told, |refused| refused.channel ^= 256),
+];
+
+/// One for the other, of a refusal that concerns a group alone.
+fn turned_round(told: &mut Told, _: &mut u32) {
+    change(told, |refused| (refused.group, refused.channel) = (refused.channel.into(), refused.group as u16));
 }
 
 fn refused(told: &mut Told, _: &mut u32) {
-    *told = REFUSED;
+    *told = nowhere(1);
 }
 
 fn accepted(told: &mut Told, _: &mut u32) {
@@ -101,6 +129,7 @@ fn of_decoding(tape: &mut Tape, file: &[u8], damaged: &[u8]) {
     spoils(tape, &[0, 1025, 1026, 1027], question);
     tape.file(damaged);
     lies(tape, &[wrong_bits, another_number, accepted], question);
+    lies(tape, &WRONG_PLACES, question);
     spoils(tape, &[0, 1027], question);
 }
 
@@ -114,6 +143,7 @@ fn of_stepping(tape: &mut Tape, file: &[u8], damaged: &[u8]) {
     spoils(tape, &[0, 3], past);
     tape.file(damaged);
     lies(tape, &[wrong_bits, another_number, accepted, |_, next| *next = 2], question);
+    lies(tape, &WRONG_PLACES, question);
     spoils(tape, &[0, 3], question);
 }
 
@@ -126,9 +156,16 @@ fn of_encoding(tape: &mut Tape) {
     spoils(tape, &[67, 68, 69], question);
     tape.samples([40_000]);
     lies(tape, &[another_number, accepted], question);
+    lies(tape, &WRONG_PLACES, question);
     spoils(tape, &[0, 69], question);
+    tape.settings(spec(2, 16));
+    tape.samples((0..1026).map(|k| i32::from(k == 1024)).collect::<Vec<_>>());
+    let question = |tape: &mut Tape| tape.encode(2, 280) as u32;
+    lies(tape, &WRONG_PLACES, question);
+    lies(tape, &[turned_round], question);
 }
 
+/// At the end 39: only the word that the boundary tells of a refusal has its place.
 fn of_reencoding(tape: &mut Tape) {
     let question = |tape: &mut Tape| tape.reencode(280) as u32;
     tape.settings(spec(1, 16));
@@ -141,7 +178,14 @@ fn of_reencoding(tape: &mut Tape) {
     damaged[136] = 200;
     tape.file(&damaged);
     lies(tape, &[wrong_bits, another_number, accepted], question);
+    lies(tape, &WRONG_PLACES, question);
     spoils(tape, &[0, 69], question);
+    tape.settings(spec(2, 16));
+    tape.samples((0..1026).map(|k| if k == 1025 { 8 } else { 0 }).collect::<Vec<_>>());
+    tape.file(&filled(2, 513, || raw(4, &[])).bytes());
+    lies(tape, &WRONG_PLACES, question);
+    tape.samples_length(4_103);
+    lies(tape, &WRONG_PLACES, question);
 }
 
 /// One place too high, one too low, none where there is one to tell; beyond the last, and the last for the first.
@@ -156,6 +200,6 @@ fn of_places(tape: &mut Tape) {
 }
 
 fn tell(tape: &mut Tape, place: i16) {
-    tape.lie(move |told, _| *told = Told::Refused(36, place));
+    tape.lie(move |told, _| change(told, |refused| refused.told = place as u16));
     tape.reencode(400);
 }

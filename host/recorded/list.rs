@@ -6,6 +6,7 @@ use crate::encodings::{self, Encoding};
 use crate::lies;
 use crate::misfits;
 use crate::pairs;
+use crate::places;
 use crate::tape::{samples_in, Tape};
 use crate::templates::{self, Reencoding};
 use crate::traps;
@@ -23,6 +24,7 @@ pub fn whole() -> Tape {
     chains::all(&mut tape);
     lies::all(&mut tape);
     misfits::all().iter().for_each(|case| rewrite(&mut tape, case));
+    places::all(&mut tape);
     tape
 }
 

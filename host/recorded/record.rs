@@ -23,6 +23,8 @@ mod list;
 #[allow(dead_code)]
 #[path = "../compare/writing/lists.rs"]
 mod lists;
+#[path = "../definitions/located.rs"]
+mod located;
 #[allow(dead_code)]
 #[path = "../definitions/misfit.rs"]
 mod misfit;
@@ -31,8 +33,7 @@ mod noisy;
 #[path = "../definitions/orders.rs"]
 mod orders;
 mod pairs;
-#[path = "../definitions/placed.rs"]
-mod placed;
+mod places;
 #[path = "../definitions/random.rs"]
 mod random;
 mod recording;
@@ -106,6 +107,8 @@ fn answers_listed() -> [Recorded; 2] {
     assert_eq!(text, again.text(), "the list read back");
     let missing = tape.tally.missing();
     assert!(missing.is_empty(), "numbers that were not met: {missing:?}");
+    let unplaced = places::missing(&tape);
+    assert!(unplaced.is_empty(), "places that were not met: {unplaced:?}");
     let traps = traps::table(&tape.cases);
     traps.iter().for_each(|(trap, items)| assert!(!items.is_empty(), "no case of: {trap}"));
     [("replay/data/answers".to_string(), bytes), ("replay/stdout".to_string(), text.into_bytes())]

@@ -114,10 +114,11 @@ impl<'a> Reader<'a> {
     /// The bytes of an answer, whatever it says.
     fn answer(&mut self, kind: u8) -> &'a [u8] {
         let more = match (self.left[0], kind) {
-            (4 | 36, _) => 2,
             (0, 16) => 29,
             (0, _) => 8,
-            _ => 0,
+            (255, _) => 0,
+            (4 | 36, _) => 6,
+            _ => 4,
         };
         self.take(1 + more + if kind == 18 { 4 } else { 0 })
     }

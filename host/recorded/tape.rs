@@ -39,6 +39,15 @@ pub struct Named {
     pub answers: Vec<String>,
 }
 
+/// Where a question was refused: its number, the group and the channel, and how many channels the file has, or for encoding the settings.
+pub struct Met {
+    pub asked: Asked,
+    pub number: u8,
+    pub group: u32,
+    pub channel: u16,
+    pub channels: u16,
+}
+
 pub struct Tape {
     out: Vec<u8>,
     pub items: usize,
@@ -50,6 +59,8 @@ pub struct Tape {
     purpose: Purpose,
     pub tally: Tally,
     pub cases: Vec<Named>,
+    /// Of the answers that are true.
+    pub met: Vec<Met>,
 }
 
 impl Tape {
@@ -65,6 +76,7 @@ impl Tape {
             purpose: Purpose::True,
             tally: Tally::default(),
             cases: Vec::new(),
+            met: Vec::new(),
         }
     }
 
@@ -243,7 +255,7 @@ impl Tape {
         let on_purpose = !matches!(purpose, Purpose::True);
         self.tally.count(asked, told.number(), on_purpose);
         match purpose {
-            Purpose::True => {}
+            Purpose::True => self.meet(asked, &told),
             Purpose::False(lie) => {
                 lie(&mut said, &mut stands);
                 assert!(said != told || next.is_some_and(|next| next != stands), "a false answer that is true");
@@ -258,6 +270,17 @@ impl Tape {
         self.item(asked.kind(), &[head, &said.bytes(), &next].concat());
         self.note(asked, &said, on_purpose);
         told.accepted() && !on_purpose
+    }
+
+    fn meet(&mut self, asked: Asked, told: &Told) {
+        let Told::Refused(refused) = told else { return };
+        let of_file = || self.file_bytes().get(8..10).map_or(0, |two| u16::from_le_bytes([two[0], two[1]]));
+        let channels = match (asked, self.settings) {
+            (Asked::Encoding, Some(spec)) => spec.channels,
+            _ => of_file(),
+        };
+        let (number, group, channel) = (told.number(), refused.group, refused.channel);
+        self.met.push(Met { asked, number, group, channel, channels });
     }
 
     fn note(&mut self, asked: Asked, said: &Told, on_purpose: bool) {

@@ -16,7 +16,7 @@ use borrow.Author.Tests.{lt-ltb, le-ltb}
 use Rattle.format.specs.Packed.{coding, isBeyond}
 use Rattle.format.specs.Blocks.{isBlock, midBit, floatBit, sizeOf}
 use Rattle.format.specs.Decoding.{isFloat, checkBlock}
-use Rattle.format.specs.Refusals.{refuse, _then_}
+use Rattle.format.specs.Refusals.{nowhere, refuse, _then_}
 use Rattle.format.specs.declared.packed.Coding.{Coding}
 use Rattle.format.specs.declared.packed.Coding.the-variants.{Differences, Raw, Beyond}
 use Rattle.format.specs.declared.answers.Fields.{Fields}
@@ -49,7 +49,7 @@ module _ (h : Fields) (format : SampleFormat) (c : ℕ) (r : List ℕ) where
       differ-is : cond (isFloat format) (not (floatBit r)) (floatBit r) ≡ d
       differ-is = ap (λ (x : Bool). cond (isFloat format) (not x) x) (sym (float ∙ float-is)) ∙ sym differ
 
-      pub other-format : d ≡ true → No FloatDiffers ≡ checkBlock h format c r
+      pub other-format : d ≡ true → No FloatDiffers nowhere ≡ checkBlock h format c r
       unfolding checkBlock refuse _then_
       other-format y = rw (le-ltb (length r) 16 long, ← mark, marked, differ-is, y)
 
@@ -58,19 +58,19 @@ module _ (h : Fields) (format : SampleFormat) (c : ℕ) (r : List ℕ) where
         alone-is : (eqb c 0 && (midBit r && not (eqb (h .channels) 2))) ≡ a
         alone-is = ap (λ (x : Bool). eqb c 0 && (x && not (eqb (h .channels) 2))) (sym (side ∙ mid-is)) ∙ sym alone
 
-        pub side-alone : a ≡ true → No MidSideChannels ≡ checkBlock h format c r
+        pub side-alone : a ≡ true → No MidSideChannels nowhere ≡ checkBlock h format c r
         unfolding checkBlock refuse _then_
         side-alone y = rw (le-ltb (length r) 16 long, ← mark, marked, differ-is, same, alone-is, y)
 
         -- with its channels
         module _ (paired : a ≡ false) (fits : SFits w16 (b .bits)) (k : Coding) (coded : k ≡ coding (h .depth) (toZ w16 (ofZ w16 (b .bits)))) where
-          pub bits-beyond : k ≡ Beyond → No (BitsWord (toZ w16 (ofZ w16 (b .bits)))) ≡ checkBlock h format c r
+          pub bits-beyond : k ≡ Beyond → No (BitsWord (toZ w16 (ofZ w16 (b .bits)))) nowhere ≡ checkBlock h format c r
           unfolding checkBlock refuse _then_ isBeyond
           bits-beyond e =
               rw (le-ltb (length r) 16 long, ← mark, marked, differ-is, same, alone-is, paired, ← coding-is (h .depth) r b header fits k coded, e, bits-are (h .depth) r b header fits)
 
           module _ (known : isBeyond k ≡ false) (n : ℕ) (size : n ≡ sizeOf (h .depth) r) where
-            pub no-values : length r < n → No TooShort ≡ checkBlock h format c r
+            pub no-values : length r < n → No TooShort nowhere ≡ checkBlock h format c r
             unfolding checkBlock refuse _then_
             no-values l =
                 rw (le-ltb (length r) 16 long, ← mark, marked, differ-is, same, alone-is, paired, ← coding-is (h .depth) r b header fits k coded, known, ← size, lt-ltb (length r) n l)

@@ -5,6 +5,7 @@ use format::Checked;
 use format::Coding;
 use format::Depth;
 use format::Fields;
+use format::NOWHERE;
 use format::Refusal;
 use format::SampleFormat;
 use le_bytes::read_u16_le;
@@ -109,7 +110,7 @@ fn float_differs(format: SampleFormat, float: bool) -> bool
 }
 
 // Whether a first block is of mid/side without two channels.
-fn mid_side_alone(c: u32, mid: bool, channels: u16) -> bool
+fn mid_side_alone(c: u16, mid: bool, channels: u16) -> bool
     ensures { λ r. ⌜ r ≡ (eqb c 0 && (mid && not (eqb channels 2))) ⌝ }
 {
     if c != 0 {
@@ -124,29 +125,29 @@ fn mid_side_alone(c: u32, mid: bool, channels: u16) -> bool
 // The refusals of channel c's block, which r begins with. 1: no whole header. 3: block signature. 20: the float bit
 // differs from the file's. 21: mid/side without two channels, on the first channel. 4: a bits word beyond 32. 1: no
 // whole values.
-pub fn check_block(h: Fields, format: SampleFormat, c: u32, r: &[u8]) -> Checked
+pub fn check_block(h: Fields, format: SampleFormat, c: u16, r: &[u8]) -> Checked
     requires { ⌜ h .depth ≤ 32 ⌝ }
     ensures { λ k. ⌜ k ≡ checkBlock h format c (now (r .entry)) ⌝ }
 {
     if r.len() < Depth::BLOCK_HEADER_SIZE {
-        return Checked::No(Refusal::TooShort);
+        return Checked::No(Refusal::TooShort, NOWHERE);
     }
     if is_block(r) {} else {
-        return Checked::No(Refusal::BlockSignature);
+        return Checked::No(Refusal::BlockSignature, NOWHERE);
     }
     let b = BlockHeader::read(r);
     if float_differs(format, b.is_float()) {
-        return Checked::No(Refusal::FloatDiffers);
+        return Checked::No(Refusal::FloatDiffers, NOWHERE);
     }
     if mid_side_alone(c, b.is_mid_side(), h.channels) {
-        return Checked::No(Refusal::MidSideChannels);
+        return Checked::No(Refusal::MidSideChannels, NOWHERE);
     }
     let coding = coding(h.depth, b.bits);
     if let Coding::Beyond = coding {
-        return Checked::No(Refusal::BitsWord(b.bits));
+        return Checked::No(Refusal::BitsWord(b.bits), NOWHERE);
     }
     if r.len() < size_of(r, h.depth) {
-        return Checked::No(Refusal::TooShort);
+        return Checked::No(Refusal::TooShort, NOWHERE);
     }
     Checked::Fine
 }

@@ -4,13 +4,14 @@ use mathlib.Core.Path.{_≡_, refl}
 use mathlib.Core.List.{List, [], _∷_, _++_}
 use lib.ListN.{replicate}
 use lib.IntN.{ℤ, pos, negsuc}
+use Rattle.format.specs.Refusals.{nowhere}
 use Rattle.format.specs.Answers.{refusedBy, read}
 use Rattle.format.specs.Packed.{packing}
 use Rattle.format.specs.Decoding.{checkDecode, decodeOf, decodeInto}
 use Rattle.format.specs.Encoding.{blockBytes}
 use Rattle.format.specs.declared.refusals.Checked.the-variants.{No}
 use Rattle.format.specs.declared.refusals.Refusal.the-variants.{BitsWord, BytesLeft, OutputTooShort}
-use Rattle.format.proofs.Made.{document-01, decodesTo, said, laid, changed, five}
+use Rattle.format.proofs.Made.{document-01, decodesTo, said, saidAt, block, laid, changed, five}
 
 abbrev small : List ℕ
 small = blockBytes (pos 7) (pos 1) 0 (replicate 64 255)
@@ -35,21 +36,21 @@ abbrev atDepth : ℕ → List ℕ
 atDepth b = blockBytes (pos 9) (pos 0) 0 (replicate (64 * b) 0x81)
 
 pub record Decodings : Type 0 where
-  -- in a block: 1 (header), 3, 20, 21, 4, 1 (values), then 22
-  pub header : said (checkDecode (stereo 16 (blockBytes (pos 0) (pos 3) 0 (replicate 192 0)) (replicate 10 0))) ≡ 1
-  pub mark : said (checkDecode (second (changed 0 1 0 (blockBytes (pos 0) (pos 33) 3 (replicate 64 0))))) ≡ 3
-  pub float : said (checkDecode (second (blockBytes (pos 0) (pos 33) 3 (replicate 64 0)))) ≡ 20
-  pub alone : said (checkDecode (second (blockBytes (pos 0) (pos 33) 1 (replicate 64 0)))) ≡ 21
-  pub word : checkDecode (second (blockBytes (pos 0) (pos 33) 0 (replicate 64 0))) ≡ No (BitsWord (pos 33))
-  pub word-below : checkDecode (second (blockBytes (pos 0) (negsuc 32) 0 (replicate 64 0))) ≡ No (BitsWord (negsuc 32))
-  pub word-lowest : checkDecode (second (blockBytes (pos 0) (negsuc 32767) 0 (replicate 64 0))) ≡ No (BitsWord (negsuc 32767))
-  pub values : said (checkDecode (second (blockBytes (pos 0) (pos 3) 0 (replicate 64 0)))) ≡ 1
-  pub left-over : said (checkDecode (second (blockBytes (pos 0) (pos 1) 0 (replicate 65 0)))) ≡ 22
+  -- in a block: 1 (header), 3, 20, 21, 4, 1 (values), then 22; each with its group and channel
+  pub header : saidAt (checkDecode (stereo 16 (blockBytes (pos 0) (pos 3) 0 (replicate 192 0)) (replicate 10 0))) ≡ 1 ∷ 0 ∷ 1 ∷ []
+  pub mark : saidAt (checkDecode (second (changed 0 1 0 (blockBytes (pos 0) (pos 33) 3 (replicate 64 0))))) ≡ 3 ∷ 1 ∷ 0 ∷ []
+  pub float : saidAt (checkDecode (second (blockBytes (pos 0) (pos 33) 3 (replicate 64 0)))) ≡ 20 ∷ 1 ∷ 0 ∷ []
+  pub alone : saidAt (checkDecode (second (blockBytes (pos 0) (pos 33) 1 (replicate 64 0)))) ≡ 21 ∷ 1 ∷ 0 ∷ []
+  pub word : checkDecode (second (blockBytes (pos 0) (pos 33) 0 (replicate 64 0))) ≡ No (BitsWord (pos 33)) (block 1 0)
+  pub word-below : checkDecode (second (blockBytes (pos 0) (negsuc 32) 0 (replicate 64 0))) ≡ No (BitsWord (negsuc 32)) (block 1 0)
+  pub word-lowest : checkDecode (second (blockBytes (pos 0) (negsuc 32767) 0 (replicate 64 0))) ≡ No (BitsWord (negsuc 32767)) (block 1 0)
+  pub values : saidAt (checkDecode (second (blockBytes (pos 0) (pos 3) 0 (replicate 64 0)))) ≡ 1 ∷ 1 ∷ 0 ∷ []
+  pub left-over : saidAt (checkDecode (second (blockBytes (pos 0) (pos 1) 0 (replicate 65 0)))) ≡ 22 ∷ 1 ∷ 0 ∷ []
   -- groups in order, and in a group its channels
-  pub first-group : said (checkDecode (laid 1 16 513 [] ((small ++ (0 ∷ [])) ∷ changed 0 1 0 small ∷ []) [])) ≡ 22
-  pub first-channel : said (checkDecode (stereo 16 (blockBytes (pos 0) (pos 33) 0 (replicate 64 0)) (changed 0 1 0 small))) ≡ 4
+  pub first-group : saidAt (checkDecode (laid 1 16 513 [] ((small ++ (0 ∷ [])) ∷ changed 0 1 0 small ∷ []) [])) ≡ 22 ∷ 0 ∷ 0 ∷ []
+  pub first-channel : saidAt (checkDecode (stereo 16 (blockBytes (pos 0) (pos 33) 0 (replicate 64 0)) (changed 0 1 0 small))) ≡ 4 ∷ 0 ∷ 0 ∷ []
   -- 20 both ways; all four bytes of the mark; width 32 is read
-  pub float-then-pcm : said (checkDecode (laid 1 16 513 [] (changed 10 2 2 small ∷ small ∷ []) [])) ≡ 20
+  pub float-then-pcm : saidAt (checkDecode (laid 1 16 513 [] (changed 10 2 2 small ∷ small ∷ []) [])) ≡ 20 ∷ 1 ∷ 0 ∷ []
   pub mark-4 : said (checkDecode (second (changed 3 1 0 small))) ≡ 3
   pub bits-32 : decodesTo (laid 1 16 2 [] (blockBytes (pos 1) (pos 32) 0 (packing 32 (pos 2147483647 ∷ replicate 511 (pos 0))) ∷ []) []) (pos 1 ∷ negsuc 2147483647 ∷ [])
   -- a first block with bits 33 opens, and decoding refuses 4; a group of 80 bytes: width 1 is read
@@ -75,10 +76,10 @@ pub record Decodings : Type 0 where
   pub lowest-pair : decodesTo (stereo 16 (raw 1 (negsuc 2147483647)) (raw 0 (negsuc 2147483647))) (pos 0 ∷ pos 0 ∷ [])
   -- 50 comes last; a refusal changes nothing, and what lies after the samples stays
   pub room-enough : decodeOf five 1 ≡ read 1
-  pub room-short : decodeOf five 0 ≡ refusedBy OutputTooShort
-  pub room-stereo : decodeOf (stereo 32 (raw 0 (pos 9)) (raw 0 (pos 2))) 1 ≡ refusedBy OutputTooShort
+  pub room-short : decodeOf five 0 ≡ refusedBy OutputTooShort nowhere
+  pub room-stereo : decodeOf (stereo 32 (raw 0 (pos 9)) (raw 0 (pos 2))) 1 ≡ refusedBy OutputTooShort nowhere
   pub room-stereo-enough : decodeOf (stereo 32 (raw 0 (pos 9)) (raw 0 (pos 2))) 2 ≡ read 2
-  pub room-last : decodeOf (second (blockBytes (pos 0) (pos 1) 0 (replicate 65 0))) 0 ≡ refusedBy BytesLeft
+  pub room-last : decodeOf (second (blockBytes (pos 0) (pos 1) 0 (replicate 65 0))) 0 ≡ refusedBy BytesLeft (block 1 0)
   pub kept : decodeInto (second (blockBytes (pos 0) (pos 1) 0 (replicate 65 0))) (pos 1 ∷ pos 2 ∷ []) ≡ pos 1 ∷ pos 2 ∷ []
   pub after : decodeInto five (pos 1 ∷ pos 2 ∷ []) ≡ pos 5 ∷ pos 2 ∷ []
 

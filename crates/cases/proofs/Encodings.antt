@@ -5,6 +5,7 @@ use mathlib.Core.Bool.{true, false}
 use mathlib.Core.List.{List, [], _∷_, _++_}
 use lib.ListN.{drop, replicate}
 use lib.IntN.{ℤ, pos, negsuc}
+use Rattle.format.specs.Refusals.{nowhere}
 use Rattle.format.specs.Answers.{refusedBy, wrote}
 use Rattle.format.specs.Lists.{tab, joined}
 use Rattle.format.specs.Numbers.{numAt}
@@ -88,8 +89,8 @@ pub record Encodings : Type 0 where
   pub stereo-back : decodesTo (encodedFile (pcm 2 16) Auto (ramp 1026)) (ramp 1026)
   -- 50 last: one byte short, and nothing changed
   pub room : encodeOf (pcm 1 16) Auto (pos 5 ∷ []) 272 ≡ wrote 272
-  pub room-short : encodeOf (pcm 1 16) Auto (pos 5 ∷ []) 271 ≡ refusedBy OutputTooShort
-  pub room-last : encodeOf (pcm 1 16) MidSide [] 0 ≡ refusedBy NotStereo
+  pub room-short : encodeOf (pcm 1 16) Auto (pos 5 ∷ []) 271 ≡ refusedBy OutputTooShort nowhere
+  pub room-last : encodeOf (pcm 1 16) MidSide [] 0 ≡ refusedBy NotStereo nowhere
   pub kept : encodeInto (pcm 1 16) Auto (pos 5 ∷ []) (replicate 271 7) ≡ replicate 271 7
 
 pub encodings : Encodings

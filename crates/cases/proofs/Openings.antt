@@ -4,6 +4,7 @@ use mathlib.Core.Path.{_≡_, refl}
 use mathlib.Core.List.{List, [], _∷_, _++_}
 use lib.ListN.{take, replicate}
 use lib.IntN.{pos}
+use Rattle.format.specs.Answers.{answeredBy}
 use Rattle.format.specs.Opening.{checkOpen, openOf}
 use Rattle.format.specs.Encoding.{blockBytes}
 use Rattle.format.specs.declared.units.Depth.the-variants.{Eight, Sixteen, ThirtyTwo}
@@ -64,13 +65,13 @@ pub record Openings : Type 0 where
   pub bits-33 : said (checkOpen (laid 1 16 1 [] (blockBytes (pos 0) (pos 33) 0 (replicate 64 0) ∷ []) [])) ≡ 0
   -- what opening returns
   pub five-opens : openOf five
-      ≡ record { outcome = Opened (record { channels = 1; depth = Sixteen; rate = 44100; frames = record { 0 = 1 }; table = 120; start = 128; size = 144; groups = 1; format = Pcm }) }
+      ≡ answeredBy (Opened (record { channels = 1; depth = Sixteen; rate = 44100; frames = record { 0 = 1 }; table = 120; start = 128; size = 144; groups = 1; format = Pcm }))
   pub float-opens : openOf (laid 1 32 2 (0 ∷ []) (blockBytes (pos 0) (pos 1) 6 (replicate 64 0) ∷ []) [])
-      ≡ record { outcome = Opened (record { channels = 1; depth = ThirtyTwo; rate = 44100; frames = record { 0 = 2 }; table = 121; start = 129; size = 80; groups = 1; format = Float }) }
+      ≡ answeredBy (Opened (record { channels = 1; depth = ThirtyTwo; rate = 44100; frames = record { 0 = 2 }; table = 121; start = 129; size = 80; groups = 1; format = Float }))
   pub floats-open : openOf (laid 1 8 513 [] (changed 10 2 2 small ∷ small ∷ []) [])
-      ≡ record { outcome = Opened (record { channels = 1; depth = Eight; rate = 44100; frames = record { 0 = 513 }; table = 120; start = 132; size = 160; groups = 2; format = Float }) }
+      ≡ answeredBy (Opened (record { channels = 1; depth = Eight; rate = 44100; frames = record { 0 = 513 }; table = 120; start = 132; size = 160; groups = 2; format = Float }))
   pub none-opens : openOf (laid 65535 16 0 [] [] [])
-      ≡ record { outcome = Opened (record { channels = 65535; depth = Sixteen; rate = 44100; frames = record { 0 = 0 }; table = 120; start = 124; size = 0; groups = 0; format = Pcm }) }
+      ≡ answeredBy (Opened (record { channels = 65535; depth = Sixteen; rate = 44100; frames = record { 0 = 0 }; table = 120; start = 124; size = 0; groups = 0; format = Pcm }))
 
 pub openings : Openings
 unfolding document-01

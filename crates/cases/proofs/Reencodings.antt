@@ -4,14 +4,16 @@ use mathlib.Core.Path.{_≡_, refl}
 use mathlib.Core.List.{List, [], _∷_, _++_}
 use lib.ListN.{take, replicate}
 use lib.IntN.{ℤ, pos, negsuc}
+use Rattle.format.specs.Refusals.{nowhere}
 use Rattle.format.specs.Answers.{refusedBy, wrote}
 use Rattle.format.specs.Packed.{packing}
 use Rattle.format.specs.Encoding.{blockBytes, encodedFile}
 use Rattle.format.specs.Reencoding.{checkReencode, reencodedFile, reencodeOf, reencodeInto}
+use Rattle.format.specs.declared.refusals.Place.{Place}
 use Rattle.format.specs.declared.refusals.Checked.the-variants.{No}
 use Rattle.format.specs.declared.refusals.Refusal.the-variants.{BitsWord, WidthTooSmall, OutputTooShort}
 use Rattle.format.specs.declared.settings.StereoMode.the-variants.{MidSide}
-use Rattle.format.proofs.Made.{document-01, decodesTo, reencodesTo, said, saidAfter, pcm, laid, changed, five}
+use Rattle.format.proofs.Made.{document-01, decodesTo, reencodesTo, said, saidAfter, pcm, laid, changed, five, block}
 
 -- the number that re-encoding says for mono samples, for a stereo frame
 abbrev mono : List ℤ → List ℕ → ℕ
@@ -20,9 +22,9 @@ mono s t = said (checkReencode (pcm 1 16) s t)
 abbrev stereo : ℤ → ℤ → List ℕ → ℕ
 stereo l r t = said (checkReencode (pcm 2 16) (l ∷ r ∷ []) t)
 
--- it refuses 36 with the place k
-abbrev misfits : ℕ → List ℤ → List ℕ → ℕ → Type 0
-misfits channels s t k = checkReencode (pcm channels 16) s t ≡ No (WidthTooSmall k)
+-- it refuses 36 with the place k of the block at that place
+abbrev misfits : ℕ → List ℤ → List ℕ → Place → ℕ → Type 0
+misfits channels s t at k = checkReencode (pcm channels 16) s t ≡ No (WidthTooSmall k) at
 
 -- a template of one mono frame whose group is g; of one stereo frame whose blocks are a and b
 abbrev one : List ℕ → List ℕ
@@ -118,7 +120,7 @@ pub record Reencodings : Type 0 where
   pub bits-0 : mono (pos 5 ∷ []) (one (blockBytes (pos 5) (pos 0) 2 [])) ≡ 44
   pub bits-1 : mono (pos 5 ∷ []) (one (blockBytes (pos 5) (pos 1) 2 [])) ≡ 44
   pub flags-2 : mono (pos 5 ∷ []) (one (blockBytes (pos 5) (pos 33) 2 [])) ≡ 45
-  pub word : checkReencode (pcm 1 16) (pos 5 ∷ []) (one (blockBytes (pos 5) (pos 33) 0 [])) ≡ No (BitsWord (pos 33))
+  pub word : checkReencode (pcm 1 16) (pos 5 ∷ []) (one (blockBytes (pos 5) (pos 33) 0 [])) ≡ No (BitsWord (pos 33)) (block 0 0)
   pub values : mono (pos 9 ∷ []) (one (blockBytes (pos 5) (pos 2) 0 (replicate 127 0))) ≡ 1
   pub does-not-fit : mono (pos 9 ∷ []) (one (small 0 ++ (0 ∷ []))) ≡ 36
   pub left-over : mono (pos 5 ∷ []) (one (small 0 ++ (0 ∷ []))) ≡ 46
@@ -152,23 +154,23 @@ pub record Reencodings : Type 0 where
   pub lowest-moves : reencodesTo 2 (pos 0 ∷ pos 0 ∷ []) lowest (both (raw 1 (pos 0)) (raw 0 (pos 0)))
   -- 50: the template's length
   pub room : reencodeOf (pcm 1 16) (pos 5 ∷ []) five 272 ≡ wrote 272
-  pub room-short : reencodeOf (pcm 1 16) (pos 5 ∷ []) five 271 ≡ refusedBy OutputTooShort
-  pub room-last : reencodeOf (pcm 1 16) (pos 3 ∷ []) five 0 ≡ refusedBy (WidthTooSmall 0)
+  pub room-short : reencodeOf (pcm 1 16) (pos 5 ∷ []) five 271 ≡ refusedBy OutputTooShort nowhere
+  pub room-last : reencodeOf (pcm 1 16) (pos 3 ∷ []) five 0 ≡ refusedBy (WidthTooSmall 0) (block 0 0)
   pub kept : reencodeInto (pcm 1 16) (pos 3 ∷ []) five (replicate 272 7) ≡ replicate 272 7
   pub after : reencodeInto (pcm 1 16) (pos 5 ∷ []) five (replicate 273 7) ≡ five ++ (7 ∷ [])
   -- 36 tells the place: of a difference to the sample after it, the last that can miss, and the one to a padded sample
-  pub place-difference : misfits 1 (replicate 4 (pos 7) ++ (pos 9 ∷ [])) (laid 1 16 5 [] (small 0 ∷ []) []) 3
-  pub place-510 : misfits 1 (replicate 511 (pos 4) ++ (pos 9 ∷ [])) (full (pos 5)) 510
-  pub place-padded : misfits 1 (pos 3 ∷ []) five 0
+  pub place-difference : misfits 1 (replicate 4 (pos 7) ++ (pos 9 ∷ [])) (laid 1 16 5 [] (small 0 ∷ []) []) (block 0 0) 3
+  pub place-510 : misfits 1 (replicate 511 (pos 4) ++ (pos 9 ∷ [])) (full (pos 5)) (block 0 0) 510
+  pub place-padded : misfits 1 (pos 3 ∷ []) five (block 0 0) 0
   -- of a raw value
-  pub place-raw : misfits 1 (pos 0 ∷ pos 0 ∷ pos 1 ∷ []) (laid 1 16 3 [] (bit ∷ []) []) 2
-  pub place-511 : misfits 1 (replicate 511 (pos 0) ++ (pos 1 ∷ [])) (laid 1 16 512 [] (bit ∷ []) []) 511
+  pub place-raw : misfits 1 (pos 0 ∷ pos 0 ∷ pos 1 ∷ []) (laid 1 16 3 [] (bit ∷ []) []) (block 0 0) 2
+  pub place-511 : misfits 1 (replicate 511 (pos 0) ++ (pos 1 ∷ [])) (laid 1 16 512 [] (bit ∷ []) []) (block 0 0) 511
   -- in the second group; in both
-  pub place-later : misfits 1 (replicate 512 (pos 0) ++ (pos 1 ∷ [])) twoGroups 0
-  pub place-sooner : misfits 1 (replicate 511 (pos 0) ++ (pos 1 ∷ pos 1 ∷ [])) twoGroups 511
+  pub place-later : misfits 1 (replicate 512 (pos 0) ++ (pos 1 ∷ [])) twoGroups (block 1 0) 0
+  pub place-sooner : misfits 1 (replicate 511 (pos 0) ++ (pos 1 ∷ pos 1 ∷ [])) twoGroups (block 0 0) 511
   -- the side misses and the mid does not; both do
-  pub place-side : misfits 2 (pos 3 ∷ pos 5 ∷ pos 3 ∷ pos 5 ∷ pos 9 ∷ negsuc 0 ∷ []) sides 1
-  pub place-mid : misfits 2 (pos 3 ∷ pos 5 ∷ pos 9 ∷ negsuc 0 ∷ pos 9 ∷ pos 9 ∷ []) sides 1
+  pub place-side : misfits 2 (pos 3 ∷ pos 5 ∷ pos 3 ∷ pos 5 ∷ pos 9 ∷ negsuc 0 ∷ []) sides (block 0 1) 1
+  pub place-mid : misfits 2 (pos 3 ∷ pos 5 ∷ pos 9 ∷ negsuc 0 ∷ pos 9 ∷ pos 9 ∷ []) sides (block 0 0) 1
 
 pub reencodings : Reencodings
 unfolding document-01

@@ -1,6 +1,8 @@
--- The starred cases, the numbers of refusal, the place that 36 tells, and the laws of depths and counts.
+-- The starred cases, the numbers of refusal, the place that 36 tells, where refusals are, and the laws of depths and
+-- counts.
 pub mod Made
 pub mod Starred
 pub mod Numbered
 pub mod Misfits
+pub mod Placed
 pub mod UnitLaws

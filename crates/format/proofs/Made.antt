@@ -13,13 +13,15 @@ use Rattle.format.specs.Blocks.{blockMark, isBlock, baseOf, bitsOf, midB
 use Rattle.format.specs.MidSide.{floatOf, patternOf, left, right, leftRight}
 use Rattle.format.specs.Units.{within, depthWord, isDepth, depthOf, framesIn, checkFramed, active}
 use Rattle.format.specs.Refusals.{number, refuse, _then_, inOrder}
+use Rattle.format.specs.Places.{located, outside, inside}
 use Rattle.format.specs.Fit.{misfit, checkFit}
 use Rattle.format.specs.Opening.{checkFields, checkOffsets, badEntry, checkTable, checkFirst, formatOf, checkOpen, headerOf, openOf}
 use Rattle.format.specs.Decoding.{isFloat, checkBlock, checkGroup, coded, channelsOf, woven, groupSamples, checkDecode, decodedOf, checkRoom, decodeOf, decodeInto}
 use Rattle.format.specs.Walking.{checkStep, stepSamples, hasGroup, checkStepInto, checkWalk, stepOf, nextOf, stepInto}
 use Rattle.format.specs.Encoding.{channel, unwoven, padded, paddedChannels, differences, leastFrom, leastWidth, firstValue, blockBytes, encodedBlock, blocks, mid, side, midSide, equalParity, parity, takesMid, encodedGroup, groupIn, encodedGroupAt, headerBytes, tableOf, assembled, encodedFile, checkSpec, checkEncoder, checkSamples, isMidSide, checkStereo, checkSize, checkEncode, checkEncodeInto, encodeOf, encodeInto}
 use Rattle.format.specs.Reencoding.{newValues, valuesFor, baseFor, reencodedBlock, checkTemplateBlock, checkReencodeBlock, activeIn, checkReencodeGroup, reencodedGroup, checkSame, checkBounds, checkRising, checkTemplate, checkReencoder, checkReencode, checkReencodeInto, reencodedFile, reencodeOf, reencodeInto}
-use Rattle.format.specs.Boundary.{samplesFrom, sampleBytes, isMode, modeOf, checkMode, checkBytes, hostOpen, hostDecode, hostDecodeInto, checkHostEncode, hostEncode, hostEncodeInto, checkHostReencode, hostReencode, hostReencodeInto}
+use Rattle.format.specs.Boundary.{samplesFrom, sampleBytes, isMode, modeOf, checkMode, checkBytes, hostOpen, hostDecode, hostDecodeInto, checkHostEncode, hostEncode, hostEncodeInto, checkHostReencode, hostReencode, hostReencodeInto, hostDecodeRefusal, hostReencodeRefusal}
+use Rattle.format.specs.declared.refusals.Place.{Place}
 use Rattle.format.specs.declared.refusals.Checked.{Checked}
 use Rattle.format.specs.declared.refusals.Checked.the-variants.{Fine, No}
 use Rattle.format.specs.declared.settings.PcmSpec.{PcmSpec}
@@ -27,14 +29,22 @@ use Rattle.format.specs.declared.settings.StereoMode.the-variants.{Auto}
 
 -- every definition of document 01, so that a table unfolds them all by one word
 unfoldable pub document-01 : Unit {0}
-unfolding tab joined from over lastOr pairwise every firstNot anyBelow same isIn num digits le numAt signature isSignature fieldsOf groupsOf entry groupBytes codesIn runOf values packing coding widthOf isBeyond rebuilt blockMark isBlock baseOf bitsOf midBit floatBit codingOf sizeOf decoded samplesOf fromBlock floatOf patternOf left right leftRight within depthWord isDepth depthOf framesIn checkFramed refuse _then_ inOrder misfit checkFit checkFields checkOffsets badEntry checkTable checkFirst formatOf checkOpen headerOf openOf isFloat checkBlock checkGroup coded channelsOf woven active groupSamples checkDecode decodedOf checkRoom decodeOf decodeInto checkStep stepSamples hasGroup checkStepInto checkWalk stepOf nextOf stepInto channel unwoven padded paddedChannels differences leastFrom leastWidth firstValue blockBytes encodedBlock blocks mid side midSide equalParity parity takesMid encodedGroup groupIn encodedGroupAt headerBytes tableOf assembled encodedFile checkSpec checkEncoder checkSamples isMidSide checkStereo checkSize checkEncode checkEncodeInto encodeOf encodeInto newValues valuesFor baseFor reencodedBlock checkTemplateBlock checkReencodeBlock activeIn checkReencodeGroup reencodedGroup checkSame checkBounds checkRising checkTemplate checkReencoder checkReencode checkReencodeInto reencodedFile reencodeOf reencodeInto samplesFrom sampleBytes isMode modeOf checkMode checkBytes hostOpen hostDecode hostDecodeInto checkHostEncode hostEncode hostEncodeInto checkHostReencode hostReencode hostReencodeInto Ieee.isNan Ieee.ofBits Ieee.toBits Ieee.add Ieee.sub Ieee.sum Ieee.round Ieee.units Ieee.odd Ieee.span Ieee.climb Ieee.size Ieee.neg
+unfolding tab joined from over lastOr pairwise every firstNot anyBelow same isIn num digits le numAt signature isSignature fieldsOf groupsOf entry groupBytes codesIn runOf values packing coding widthOf isBeyond rebuilt blockMark isBlock baseOf bitsOf midBit floatBit codingOf sizeOf decoded samplesOf fromBlock floatOf patternOf left right leftRight within depthWord isDepth depthOf framesIn checkFramed refuse _then_ inOrder located outside inside misfit checkFit checkFields checkOffsets badEntry checkTable checkFirst formatOf checkOpen headerOf openOf isFloat checkBlock checkGroup coded channelsOf woven active groupSamples checkDecode decodedOf checkRoom decodeOf decodeInto checkStep stepSamples hasGroup checkStepInto checkWalk stepOf nextOf stepInto channel unwoven padded paddedChannels differences leastFrom leastWidth firstValue blockBytes encodedBlock blocks mid side midSide equalParity parity takesMid encodedGroup groupIn encodedGroupAt headerBytes tableOf assembled encodedFile checkSpec checkEncoder checkSamples isMidSide checkStereo checkSize checkEncode checkEncodeInto encodeOf encodeInto newValues valuesFor baseFor reencodedBlock checkTemplateBlock checkReencodeBlock activeIn checkReencodeGroup reencodedGroup checkSame checkBounds checkRising checkTemplate checkReencoder checkReencode checkReencodeInto reencodedFile reencodeOf reencodeInto samplesFrom sampleBytes isMode modeOf checkMode checkBytes hostOpen hostDecode hostDecodeInto checkHostEncode hostEncode hostEncodeInto checkHostReencode hostReencode hostReencodeInto hostDecodeRefusal hostReencodeRefusal Ieee.isNan Ieee.ofBits Ieee.toBits Ieee.add Ieee.sub Ieee.sum Ieee.round Ieee.units Ieee.odd Ieee.span Ieee.climb Ieee.size Ieee.neg
 document-01 = tt
 
 -- ---- the number that checks give, 0 where nothing is refused
 
 abbrev pub said : Checked → ℕ
 said Fine = 0
-said (No r) = number r
+said (No refusal place) = number refusal
+
+-- and where: the number, the group and the channel; nothing where nothing is refused
+abbrev pub saidAt : Checked → List ℕ
+saidAt Fine = []
+saidAt (No refusal place) = number refusal ∷ place .group ∷ place .channel ∷ []
+
+abbrev pub block : ℕ → ℕ → Place
+block g c = record { group = g; channel = c }
 
 -- ---- settings and files
 

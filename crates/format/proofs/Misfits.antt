@@ -5,6 +5,7 @@ use mathlib.Core.Path.{_≡_, refl}
 use mathlib.Core.List.{List, [], _∷_}
 use lib.ListN.{replicate}
 use lib.IntN.{pos, negsuc}
+use Rattle.format.specs.Refusals.{nowhere}
 use Rattle.format.specs.Answers.{refusedBy}
 use Rattle.format.specs.Fit.{checkFit}
 use Rattle.format.specs.Encoding.{encodedFile}
@@ -20,11 +21,11 @@ silence = encodedFile (pcm 2 16) Direct (replicate 6 (pos 0))
 
 pub record Misfits : Type 0 where
   -- 3 bits hold −4 to 3: the first that they do not hold is neither the widest nor the last
-  pub first : checkFit 3 (pos 3 ∷ pos 4 ∷ pos 9 ∷ negsuc 4 ∷ []) ≡ No (WidthTooSmall 1)
-  pub at-0 : checkFit 3 (negsuc 4 ∷ pos 9 ∷ []) ≡ No (WidthTooSmall 0)
+  pub first : checkFit 3 (pos 3 ∷ pos 4 ∷ pos 9 ∷ negsuc 4 ∷ []) ≡ No (WidthTooSmall 1) nowhere
+  pub at-0 : checkFit 3 (negsuc 4 ∷ pos 9 ∷ []) ≡ No (WidthTooSmall 0) nowhere
   pub held : checkFit 3 (pos 3 ∷ negsuc 3 ∷ []) ≡ Fine
   -- left 0, 0, 9 and right 0, 9, 0: channel 0's place 1 stands before channel 1's place 0
-  pub channels : reencodeOf (pcm 2 16) (pos 0 ∷ pos 0 ∷ pos 0 ∷ pos 9 ∷ pos 9 ∷ pos 0 ∷ []) silence 1000 ≡ refusedBy (WidthTooSmall 1)
+  pub channels : reencodeOf (pcm 2 16) (pos 0 ∷ pos 0 ∷ pos 0 ∷ pos 9 ∷ pos 9 ∷ pos 0 ∷ []) silence 1000 ≡ refusedBy (WidthTooSmall 1) nowhere
 
 pub misfits : Misfits
 unfolding document-01

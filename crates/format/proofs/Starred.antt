@@ -10,7 +10,7 @@ use Rattle.format.specs.Numbers.{value}
 use Rattle.format.specs.Header.{fieldsOf}
 use Rattle.format.specs.Packed.{values, packing, rebuilt}
 use Rattle.format.specs.Blocks.{bitsOf}
-use Rattle.format.specs.Refusals.{number}
+use Rattle.format.specs.Refusals.{number, nowhere}
 use Rattle.format.specs.Encoding.{padded, paddedChannels, differences, leastWidth, blocks, mid, side, midSide, takesMid, encodedGroup, encodedFile, encodeOf, encodeInto}
 use Rattle.format.specs.declared.refusals.Refusal.the-variants.{ParityDiffers}
 use Rattle.format.specs.declared.settings.StereoMode.the-variants.{Auto, MidSide}
@@ -75,7 +75,7 @@ pub record Starred : Type 0 where
   -- pair (3, 5), pair (3, 4)
   pub pair-mid : mid (pos 3) (pos 5) ≡ pos 4
   pub pair-side : side (pos 3) (pos 5) ≡ negsuc 0
-  pub pair-odd : encodeOf (pcm 2 16) MidSide (pair (pos 3) (pos 4)) 1000 ≡ refusedBy ParityDiffers
+  pub pair-odd : encodeOf (pcm 2 16) MidSide (pair (pos 3) (pos 4)) 1000 ≡ refusedBy ParityDiffers nowhere
   pub parity-number : number ParityDiffers ≡ 35
   -- pair (−32768, 32766)
   pub far-mid : mid (negsuc 32767) (pos 32766) ≡ negsuc 0

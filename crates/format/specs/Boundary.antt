@@ -8,14 +8,17 @@ use lib.Dec.{ltb, eqb}
 use Rattle.format.specs.Lists.{tab, joined}
 use Rattle.format.specs.Numbers.{le, numAt, value, codeOf}
 use Rattle.format.specs.Units.{samplesIn}
-use Rattle.format.specs.Refusals.{number, refuse, _then_}
+use Rattle.format.specs.Refusals.{number, told, refuse, _then_}
 use Rattle.format.specs.Answers.{answered, filled}
 use Rattle.format.specs.Opening.{openOf}
 use Rattle.format.specs.Decoding.{checkDecode, decodedOf, checkRoom, decodeOf}
 use Rattle.format.specs.Encoding.{encodedFile, checkEncodeInto}
 use Rattle.format.specs.Reencoding.{reencodedFile, checkReencodeInto}
 use Rattle.format.specs.declared.refusals.Refusal.the-variants.{UnknownMode, SampleBytes}
+use Rattle.format.specs.declared.refusals.Told.{Told}
+use Rattle.format.specs.declared.refusals.Told.the-variants.{Nothing, Bits, Misfit}
 use Rattle.format.specs.declared.refusals.Checked.{Checked}
+use Rattle.format.specs.declared.refusals.Checked.the-variants.{Fine, No}
 use Rattle.format.specs.declared.settings.PcmSpec.{PcmSpec}
 use Rattle.format.specs.declared.settings.StereoMode.{StereoMode}
 use Rattle.format.specs.declared.settings.StereoMode.the-variants.{Auto, Direct, MidSide}
@@ -97,3 +100,23 @@ hostReencode bytes spec template room =
 unfoldable pub hostReencodeInto : List ℕ → PcmSpec → List ℕ → List ℕ → List ℕ
 hostReencodeInto bytes spec template lent =
     filled (checkHostReencode bytes spec template (length lent)) (reencodedFile (samplesFrom bytes) template) lent
+
+-- ---- document 02, L6: what a call of so much room, in bytes, refuses, and where; nothing is written
+
+-- the place that 36 tells
+abbrev pub misfitTold : Told → ℕ
+misfitTold (Misfit place) = place
+misfitTold (Bits bits) = 0
+misfitTold Nothing = 0
+
+-- 0 where nothing is refused; otherwise the number, that place, the channel and the group, in 8, 16, 16 and 24 bits
+abbrev pub refusalWord : Checked → ℕ
+refusalWord Fine = 0
+refusalWord (No refusal place) =
+    number refusal + 2 ^ 8 * misfitTold (told refusal) + 2 ^ 24 * place .channel + 2 ^ 40 * place .group
+
+unfoldable pub hostDecodeRefusal : List ℕ → ℕ → ℕ
+hostDecodeRefusal file room = refusalWord (checkDecode file then checkRoom file (room / 4))
+
+unfoldable pub hostReencodeRefusal : List ℕ → PcmSpec → List ℕ → ℕ → ℕ
+hostReencodeRefusal bytes spec template room = refusalWord (checkHostReencode bytes spec template room)

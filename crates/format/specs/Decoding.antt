@@ -12,6 +12,7 @@ use Rattle.format.specs.Blocks.{isBlock, bitsOf, midBit, floatBit, codin
 use Rattle.format.specs.MidSide.{leftRight}
 use Rattle.format.specs.Units.{samplesIn, active}
 use Rattle.format.specs.Refusals.{refuse, _then_, inOrder}
+use Rattle.format.specs.Places.{inGroup, inChannel}
 use Rattle.format.specs.Answers.{answered, filled}
 use Rattle.format.specs.Opening.{formatOf, checkOpen}
 use Rattle.format.specs.declared.refusals.Refusal.the-variants.{TooShort, BlockSignature, BitsWord}
@@ -46,7 +47,7 @@ checkBlock fields format c block =
 -- each channel in order; after the channels 22
 unfoldable pub checkGroup : Fields → SampleFormat → List ℕ → Checked
 checkGroup fields format group =
-    let check : ℕ → Checked = λ c. checkBlock fields format c (fromBlock (fields .depth) group c) in
+    let check : ℕ → Checked = λ c. inChannel c (checkBlock fields format c (fromBlock (fields .depth) group c)) in
     inOrder check (fields .channels)  -- 1, 3, 20, 21, 4, 1
     then refuse (not (eqb (length (fromBlock (fields .depth) group (fields .channels))) 0)) BytesLeft  -- 22
 
@@ -73,7 +74,7 @@ groupSamples fields format g group = woven (active (fields .frames) g) (channels
 unfoldable pub checkDecode : List ℕ → Checked
 checkDecode file =
     let fields = fieldsOf file in
-    let check : ℕ → Checked = λ g. checkGroup fields (formatOf file fields) (groupBytes file fields g) in
+    let check : ℕ → Checked = λ g. inGroup g (checkGroup fields (formatOf file fields) (groupBytes file fields g)) in
     checkOpen file  -- 1, 2, 10 to 15, 1, 16 to 19, 3
     then inOrder check (groupsOf (fields .frames))  -- 1, 3, 20, 21, 4, 1, 22
 

@@ -6,13 +6,14 @@ use lib.ListN.{length, getD, replicate}
 use lib.IntN.{ℤ, pos, negℤ, natAbs, _+ℤ_, _-ℤ_}
 use lib.Signed.{quotZ}
 use lib.Dec.{ltb, eqb}
-use Rattle.format.specs.Lists.{from, tab, joined, lastOr, pairwise, every, anyBelow, isIn}
+use Rattle.format.specs.Lists.{from, tab, joined, lastOr, pairwise, every, isIn}
 use Rattle.format.specs.Numbers.{le, codeOf, holds, minus}
 use Rattle.format.specs.Header.{signature, groupsOf}
 use Rattle.format.specs.Packed.{packing}
 use Rattle.format.specs.Blocks.{blockMark}
 use Rattle.format.specs.Units.{depthOf, within, checkFrameCount}
-use Rattle.format.specs.Refusals.{refuse, _then_}
+use Rattle.format.specs.Refusals.{refuse, _then_, inOrder}
+use Rattle.format.specs.Places.{inGroup}
 use Rattle.format.specs.Answers.{answered, filled}
 use Rattle.format.specs.declared.refusals.Refusal.the-variants.{WriterSpec, IncompleteFrame, ValueOutside}
 use Rattle.format.specs.declared.refusals.Refusal.the-variants.{NotStereo, ParityDiffers}
@@ -202,13 +203,14 @@ isMidSide MidSide = true
 isMidSide Auto = false
 isMidSide Direct = false
 
--- 34 (MidSide, not stereo), 35 (MidSide: in some group a frame's samples differ in parity)
+-- 34 (MidSide, not stereo), 35 (MidSide, over groups in order: a frame's samples differ in parity)
 unfoldable pub checkStereo : PcmSpec → StereoMode → List ℤ → Checked
 checkStereo spec mode samples =
     let channels = spec .channels in
+    let groups = groupsOf (framesOf spec samples) in
     let differs : ℕ → Bool = λ g. not (parity (unwoven channels (groupIn channels samples g))) in
     refuse (isMidSide mode && not (eqb channels 2)) NotStereo  -- 34
-    then refuse (isMidSide mode && anyBelow differs (groupsOf (framesOf spec samples))) ParityDiffers  -- 35
+    then inOrder (λ g. inGroup g (refuse (isMidSide mode && differs g) ParityDiffers)) groups  -- 35
 
 -- the data size over 32 bits
 abbrev pub checkDataSize : ℕ → Checked

@@ -7,9 +7,10 @@ pub mod Header
 pub mod Packed
 pub mod Blocks
 pub mod MidSide
--- "The units", "Numbers of refusal"; of 36 also document 02's L2
+-- "The units", "Numbers of refusal"; of 36 also document 02's L2, of all of them its L6
 pub mod Units
 pub mod Refusals
+pub mod Places
 pub mod Answers
 pub mod Fit
 -- "Order of checks", "Encoding", "Re-encoding"

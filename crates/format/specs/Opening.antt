@@ -4,11 +4,11 @@ use mathlib.Core.List.{List}
 use mathlib.Core.Bool.{Bool, not, _&&_, _||_, cond}
 use lib.ListN.{length, drop}
 use lib.Dec.{ltb, eqb}
-use Rattle.format.specs.Lists.{anyBelow}
 use Rattle.format.specs.Header.{isSignature, fieldsOf, groupsOf, entry}
 use Rattle.format.specs.Blocks.{isBlock, floatBit}
 use Rattle.format.specs.Units.{isDepth, depthOf}
-use Rattle.format.specs.Refusals.{refuse, _then_}
+use Rattle.format.specs.Refusals.{refuse, _then_, inOrder}
+use Rattle.format.specs.Places.{inGroup}
 use Rattle.format.specs.Answers.{answered}
 use Rattle.format.specs.declared.refusals.Refusal.the-variants.{TooShort, FileSignature, BlockSignature}
 use Rattle.format.specs.declared.refusals.Refusal.the-variants.{ZeroChannels, DepthUnknown, ZeroRate}
@@ -53,7 +53,7 @@ checkTable file fields =
     refuse (not (eqb (entry file fields groups) (fields .size))) LastEntry  -- 16
     then refuse (eqb groups 0 && not (eqb (fields .size) 0)) DataWithoutFrames  -- 17
     then refuse (not (eqb groups 0) && not (eqb (entry file fields 0) 0)) FirstEntry  -- 18
-    then refuse (anyBelow (badEntry file fields) groups) EntryBounds  -- 19
+    then inOrder (λ g. inGroup g (refuse (badEntry file fields g) EntryBounds)) groups  -- 19
 
 -- on the first block, where there is a group
 unfoldable pub checkFirst : List ℕ → Fields → Checked

@@ -11,7 +11,7 @@ use Rattle.format.specs.Walking.{stepOf, nextOf, stepInto}
 use Rattle.format.specs.Encoding.{encodeOf, encodeInto}
 use Rattle.format.specs.Reencoding.{reencodeOf, reencodeInto}
 use Rattle.format.specs.Boundary.{hostOpen, hostDecode, hostDecodeInto, hostEncode, hostEncodeInto}
-use Rattle.format.specs.Boundary.{hostReencode, hostReencodeInto}
+use Rattle.format.specs.Boundary.{hostReencode, hostReencodeInto, hostDecodeRefusal, hostReencodeRefusal}
 use Rattle.format.specs.declared.settings.PcmSpec.{PcmSpec}
 use Rattle.format.specs.declared.settings.StereoMode.{StereoMode}
 use Rattle.format.specs.declared.answers.Answer.{Answer}
@@ -59,3 +59,10 @@ HostEncodes bytes spec word lent answer after =
 abbrev pub HostReencodes : List ℕ → PcmSpec → List ℕ → List ℕ → ℕ → List ℕ → Type 0
 HostReencodes bytes spec template lent answer after =
     (answer ≡ hostReencode bytes spec template (length lent)) × (after ≡ hostReencodeInto bytes spec template lent)
+
+-- what these two would refuse in so much room, and where
+abbrev pub HostDecodeRefuses : List ℕ → ℕ → ℕ → Type 0
+HostDecodeRefuses file room answer = answer ≡ hostDecodeRefusal file room
+
+abbrev pub HostReencodeRefuses : List ℕ → PcmSpec → List ℕ → ℕ → ℕ → Type 0
+HostReencodeRefuses bytes spec template room answer = answer ≡ hostReencodeRefusal bytes spec template room

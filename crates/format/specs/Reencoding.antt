@@ -15,6 +15,7 @@ use Rattle.format.specs.declared.packed.Coding.the-variants.{Differences
 use Rattle.format.specs.Blocks.{isBlock, bitsWord, bitsOf, flagsOf, midBit}
 use Rattle.format.specs.Blocks.{codingOf, sizeOf, samplesOf, fromBlock}
 use Rattle.format.specs.Refusals.{refuse, _then_, inOrder}
+use Rattle.format.specs.Places.{inGroup, inChannel}
 use Rattle.format.specs.Answers.{answered, filled}
 use Rattle.format.specs.Fit.{checkFit}
 use Rattle.format.specs.Encoding.{framesOf, unwoven, differences, firstValue, midSide, parity, groupIn}
@@ -87,7 +88,7 @@ activeIn channels group samples =
 unfoldable pub checkReencodeGroup : ℕ → ℕ → List ℕ → List ℤ → Checked
 checkReencodeGroup depth channels group samples =
     let chans = activeIn channels group samples in
-    let check : ℕ → Checked = λ c. checkReencodeBlock depth (fromBlock depth group c) (getD chans c []) in
+    let check : ℕ → Checked = λ c. inChannel c (checkReencodeBlock depth (fromBlock depth group c) (getD chans c [])) in
     refuse (ltb (length group) 12) ShortGroup  -- 43
     then refuse (midBit group && not (eqb channels 2)) NotStereo  -- 34
     then refuse (midBit group && not (parity (unwoven channels samples))) ParityDiffers  -- 35
@@ -148,7 +149,7 @@ checkReencode spec samples template =
     let channels = fields .channels in
     let old : ℕ → List ℕ = groupBytes template fields in
     let new : ℕ → List ℤ = groupIn channels samples in
-    let check : ℕ → Checked = λ g. checkReencodeGroup (fields .depth) channels (old g) (new g) in
+    let check : ℕ → Checked = λ g. inGroup g (checkReencodeGroup (fields .depth) channels (old g) (new g)) in
     checkReencoder spec  -- 30
     then checkSamples spec samples  -- 31 to 33
     then checkTemplate spec samples template  -- 1, 2, 40 to 42

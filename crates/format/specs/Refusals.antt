@@ -14,12 +14,15 @@ use Rattle.format.specs.declared.refusals.Refusal.the-variants.{SampleBy
 use Rattle.format.specs.declared.refusals.Refusal.the-variants.{TemplateOffsets, ShortGroup, TemplateBits}
 use Rattle.format.specs.declared.refusals.Refusal.the-variants.{TemplateFlags, TemplateBytesLeft}
 use Rattle.format.specs.declared.refusals.Refusal.the-variants.{OutputTooShort}
+use Rattle.format.specs.declared.refusals.Told.{Told}
+use Rattle.format.specs.declared.refusals.Told.the-variants.{Nothing, Bits, Misfit}
+use Rattle.format.specs.declared.refusals.Place.{Place}
 use Rattle.format.specs.declared.refusals.Checked.{Checked}
 use Rattle.format.specs.declared.refusals.Checked.the-variants.{Fine, No}
 
 -- ------------------------------------------------------------------------------------------------------------------
 
--- the number of each; 4 returns the bits word too, and 36 the place of the value or difference
+-- the number of each
 abbrev pub number : Refusal → ℕ
 number TooShort = 1
 number FileSignature = 2
@@ -57,16 +60,58 @@ number TemplateFlags = 45
 number TemplateBytesLeft = 46
 number OutputTooShort = 50
 
+-- what it returns besides: 4 the bits word; 36, by document 02's L2, the place of the value or difference
+abbrev pub told : Refusal → Told
+told TooShort = Nothing
+told FileSignature = Nothing
+told BlockSignature = Nothing
+told (BitsWord bits) = Bits bits
+told ZeroChannels = Nothing
+told DepthUnknown = Nothing
+told ZeroRate = Nothing
+told TableOffset = Nothing
+told DataOffset = Nothing
+told TableLength = Nothing
+told LastEntry = Nothing
+told DataWithoutFrames = Nothing
+told FirstEntry = Nothing
+told EntryBounds = Nothing
+told FloatDiffers = Nothing
+told MidSideChannels = Nothing
+told BytesLeft = Nothing
+told WriterSpec = Nothing
+told IncompleteFrame = Nothing
+told ValueOutside = Nothing
+told TooManyFrames = Nothing
+told NotStereo = Nothing
+told ParityDiffers = Nothing
+told (WidthTooSmall place) = Misfit place
+told DataTooLarge = Nothing
+told UnknownMode = Nothing
+told SampleBytes = Nothing
+told TemplateDiffers = Nothing
+told TemplateBounds = Nothing
+told TemplateOffsets = Nothing
+told ShortGroup = Nothing
+told TemplateBits = Nothing
+told TemplateFlags = Nothing
+told TemplateBytesLeft = Nothing
+told OutputTooShort = Nothing
+
+-- the place of a refusal that concerns no group: document 02, L6, has group and channel both 0
+abbrev pub nowhere : Place
+nowhere = record { group = 0; channel = 0 }
+
 -- a check: refused where the test holds
 unfoldable pub refuse : Bool → Refusal → Checked
-refuse true refusal = No refusal
+refuse true refusal = No refusal nowhere
 refuse false refusal = Fine
 
 infixr 20 _then_
 -- one check after another: the first refusal counts
 unfoldable pub _then_ : Checked → Checked → Checked
 Fine then next = next
-(No refusal) then next = No refusal
+(No refusal place) then next = No refusal place
 
 -- check 0, check 1, .. check (n - 1), in order
 unfoldable pub inOrder : (ℕ → Checked) → ℕ → Checked

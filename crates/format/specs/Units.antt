@@ -5,7 +5,7 @@ use mathlib.Core.Bool.{Bool, true, false, not, _&&_, cond}
 use lib.IntN.{ℤ, pos, negℤ}
 use lib.Signed.{leZ}
 use lib.Dec.{ltb, eqb}
-use Rattle.format.specs.Refusals.{refuse, _then_}
+use Rattle.format.specs.Refusals.{nowhere, refuse, _then_}
 use Rattle.format.specs.declared.refusals.Checked.{Checked}
 use Rattle.format.specs.declared.refusals.Checked.the-variants.{Fine, No}
 use Rattle.format.specs.declared.refusals.Refusal.the-variants.{IncompleteFrame, TooManyFrames}
@@ -89,8 +89,8 @@ framesIn count channels =
 -- what is no whole number of frames is refused by its number
 abbrev pub framedAs : Framed → Checked
 framedAs (Whole frames) = Fine
-framedAs Incomplete = No IncompleteFrame  -- 31
-framedAs TooMany = No TooManyFrames  -- 33
+framedAs Incomplete = No IncompleteFrame nowhere  -- 31
+framedAs TooMany = No TooManyFrames nowhere  -- 33
 
 -- the same, by checks: 31 without a channel, or where a frame is not whole; then 33
 unfoldable pub checkFramed : Samples → ℕ → Checked

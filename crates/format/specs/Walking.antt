@@ -8,6 +8,7 @@ use lib.Dec.{ltb}
 use Rattle.format.specs.Header.{fieldsOf, groupsOf, groupBytes}
 use Rattle.format.specs.Units.{samplesIn, active}
 use Rattle.format.specs.Refusals.{refuse, _then_}
+use Rattle.format.specs.Places.{inGroup}
 use Rattle.format.specs.Answers.{answered, filled}
 use Rattle.format.specs.Opening.{formatOf, checkOpen}
 use Rattle.format.specs.Decoding.{checkGroup, groupSamples}
@@ -23,7 +24,9 @@ use Rattle.format.specs.declared.answers.Answer.{Answer}
 
 -- one group's interleaved samples by the same checks, and how many they are
 unfoldable pub checkStep : List ℕ → ℕ → Checked
-checkStep file g = let fields = fieldsOf file in checkGroup fields (formatOf file fields) (groupBytes file fields g)
+checkStep file g =
+    let fields = fieldsOf file in
+    inGroup g (checkGroup fields (formatOf file fields) (groupBytes file fields g))
 
 unfoldable pub stepSamples : List ℕ → ℕ → List ℤ
 stepSamples file g =

@@ -1,4 +1,5 @@
 // What a caller is told.
+use crate::refusals::Place;
 use crate::refusals::Refusal;
 use crate::settings::SampleFormat;
 use crate::units::Depth;
@@ -41,9 +42,12 @@ pub enum Outcome {
     Refused(Refusal),
 }
 
-// The record that reading, encoding and re-encoding share.
+// The record that reading, encoding and re-encoding share. Of a refusal that concerns a group or a block, the file's
+// group and the channel; otherwise 0 and 0.
 pub struct Answer {
     pub outcome: Outcome,
+    pub group: u32,
+    pub channel: u16,
 }
 
 impl Answer {
@@ -51,13 +55,21 @@ impl Answer {
     pub fn of(outcome: Outcome) -> Answer
         ensures { λ r. ⌜ r ≡ answeredBy outcome ⌝ }
     {
-        Answer { outcome }
+        Answer {
+            outcome,
+            group: 0,
+            channel: 0,
+        }
     }
 
-    // Nothing was done, for this reason.
-    pub fn refused(refusal: Refusal) -> Answer
-        ensures { λ r. ⌜ r ≡ refusedBy refusal ⌝ }
+    // Nothing was done, for this reason, there.
+    pub fn refused(why: Refusal, at: Place) -> Answer
+        ensures { λ r. ⌜ r ≡ refusedBy why at ⌝ }
     {
-        Answer::of(Outcome::Refused(refusal))
+        Answer {
+            outcome: Outcome::Refused(why),
+            group: at.group,
+            channel: at.channel,
+        }
     }
 }

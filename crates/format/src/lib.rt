@@ -2,6 +2,7 @@
 
 mod answers;
 mod packed;
+mod places;
 mod refusals;
 mod settings;
 mod signatures;
@@ -12,8 +13,12 @@ pub use answers::Fields;
 pub use answers::Header;
 pub use answers::Outcome;
 pub use packed::Coding;
+pub use places::Named;
 pub use refusals::Checked;
+pub use refusals::NOWHERE;
+pub use refusals::Place;
 pub use refusals::Refusal;
+pub use refusals::Told;
 pub use settings::PcmSpec;
 pub use settings::SampleFormat;
 pub use settings::StereoMode;

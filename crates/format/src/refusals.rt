@@ -1,6 +1,7 @@
 // Document 01, "Numbers of refusal".
 ghost use mathlib.Core.Path.{_≡_};
-ghost use Rattle.format.specs.Refusals.{number};
+ghost use Rattle.format.specs.Refusals.{number, told};
+ghost use Rattle.format.specs.Places.{atGroup, atChannel};
 
 // Why a call is refused; `number` has each in document 01's words.
 pub enum Refusal {
@@ -41,10 +42,51 @@ pub enum Refusal {
     OutputTooShort,
 }
 
-// What checks say: nothing is refused, or what is.
+// What a refusal tells besides its number.
+pub enum Told {
+    Nothing,
+    Bits(i16),
+    Misfit(u16),
+}
+
+// Where it is refused: the file's group and its channel.
+pub struct Place {
+    pub group: u32,
+    pub channel: u16,
+}
+
+// Of a refusal that concerns no group.
+pub const NOWHERE: Place = Place {
+    group: 0,
+    channel: 0,
+};
+
+impl Place {
+    // The same place, in that group.
+    pub fn at_group(self, group: u32) -> Place
+        ensures { λ r. ⌜ r ≡ atGroup group self ⌝ }
+    {
+        Place {
+            group,
+            channel: self.channel,
+        }
+    }
+
+    // The same place, of that channel.
+    pub fn at_channel(self, channel: u16) -> Place
+        ensures { λ r. ⌜ r ≡ atChannel channel self ⌝ }
+    {
+        Place {
+            group: self.group,
+            channel,
+        }
+    }
+}
+
+// What checks say: nothing is refused, or what is, and where.
 pub enum Checked {
     Fine,
-    No(Refusal),
+    No(Refusal, Place),
 }
 
 impl Refusal {
@@ -88,6 +130,17 @@ impl Refusal {
             Refusal::TemplateFlags => 45, // template: flags above 1
             Refusal::TemplateBytesLeft => 46, // bytes left in a template group
             Refusal::OutputTooShort => 50, // lent output too short
+        }
+    }
+
+    // 4 the bits word that was read, 36 the place of the value or difference in its block.
+    pub fn told(self) -> Told
+        ensures { λ r. ⌜ r ≡ told self ⌝ }
+    {
+        match self {
+            Refusal::BitsWord(bits) => Told::Bits(bits),
+            Refusal::WidthTooSmall(place) => Told::Misfit(place),
+            _ => Told::Nothing,
         }
     }
 }

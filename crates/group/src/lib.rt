@@ -1,6 +1,7 @@
 // One group: its checks, from block headers alone, and its samples, put where they belong in what is lent.
 use format::Checked;
 use format::Fields;
+use format::NOWHERE;
 use format::Refusal;
 use format::SampleFormat;
 use lent_samples::Container;
@@ -16,18 +17,18 @@ pub fn check_group(h: Fields, format: SampleFormat, bs: &[u8]) -> Checked
     requires { ⌜ h .depth ≤ 32 ⌝ }
     ensures { λ r. ⌜ r ≡ checkGroup h format (now (bs .entry)) ⌝ }
 {
-    let channels = h.channels as u32;
+    let channels = h.channels;
     let mut at: usize = 0;
-    let mut c: u32 = 0;
+    let mut c: u16 = 0;
     while c < channels {
-        if let Checked::No(r) = block::check_block(h, format, c, &bs[at..]) {
-            return Checked::No(r);
+        if let Checked::No(r, place) = block::check_block(h, format, c, &bs[at..]) {
+            return Checked::No(r, place.at_channel(c));
         }
         at += block::size_of(&bs[at..], h.depth);
         c += 1;
     }
     if at != bs.len() {
-        return Checked::No(Refusal::BytesLeft);
+        return Checked::No(Refusal::BytesLeft, NOWHERE);
     }
     Checked::Fine
 }

@@ -8,6 +8,7 @@ use format::FILE_SIGNATURE_30;
 use format::FILE_SIGNATURE_31;
 use format::Fields;
 use format::Frames;
+use format::NOWHERE;
 use format::Refusal;
 use le_bytes::read_u16_le;
 use le_bytes::read_u32_le;
@@ -15,10 +16,12 @@ use le_bytes::read_u64_le;
 ghost use mathlib.Core.Path.{_≡_};
 ghost use Prim.Native.Nat.{_+_, _*_, _<_, _≤_};
 ghost use lib.ListN.{length};
-ghost use Rattle.format.specs.Lists.{anyBelow};
 ghost use Rattle.format.specs.Header.{isSignature, fieldsOf, groupsOf, entry};
 ghost use Rattle.format.specs.Units.{isDepth};
+ghost use Rattle.format.specs.Refusals.{refuse, inOrder};
+ghost use Rattle.format.specs.Places.{inGroup};
 ghost use Rattle.format.specs.Opening.{checkFields, checkOffsets, badEntry, checkTable};
+ghost use Rattle.format.specs.declared.refusals.Refusal.the-variants.{EntryBounds};
 
 // The two signatures, each as one number of eight bytes.
 const SIGNATURE_31: u64 = 0x1_0000_0000 * FILE_SIGNATURE_31 as u64 + FILE_SIGNATURE as u64;
@@ -69,13 +72,13 @@ pub fn check_fields(h: Fields) -> Checked
     ensures { λ r. ⌜ r ≡ checkFields h ⌝ }
 {
     if h.channels == 0 {
-        return Checked::No(Refusal::ZeroChannels);
+        return Checked::No(Refusal::ZeroChannels, NOWHERE);
     }
     if is_depth(h.depth) {} else {
-        return Checked::No(Refusal::DepthUnknown);
+        return Checked::No(Refusal::DepthUnknown, NOWHERE);
     }
     if h.rate == 0 {
-        return Checked::No(Refusal::ZeroRate);
+        return Checked::No(Refusal::ZeroRate, NOWHERE);
     }
     Checked::Fine
 }
@@ -87,16 +90,16 @@ pub fn check_offsets(h: Fields, n: usize) -> Checked
 {
     let frames = h.frames;
     if h.table < 120 {
-        return Checked::No(Refusal::TableOffset);
+        return Checked::No(Refusal::TableOffset, NOWHERE);
     }
     if h.start < h.table {
-        return Checked::No(Refusal::DataOffset);
+        return Checked::No(Refusal::DataOffset, NOWHERE);
     }
     if h.start - h.table != 4 * (frames.groups() + 1) {
-        return Checked::No(Refusal::TableLength);
+        return Checked::No(Refusal::TableLength, NOWHERE);
     }
     if n < h.start as usize + h.size as usize {
-        return Checked::No(Refusal::TooShort);
+        return Checked::No(Refusal::TooShort, NOWHERE);
     }
     Checked::Fine
 }
@@ -127,19 +130,20 @@ fn bad_entry(s: &[u8], h: Fields, k: u32) -> bool
     to - from < 80 * (h.channels as u32)
 }
 
-// Whether the entries of some group below g are bad.
-fn any_bad(s: &[u8], h: Fields, g: u32) -> bool
+// 19 over the groups below g in order: the first whose entries are bad.
+fn check_entries(s: &[u8], h: Fields, g: u32) -> Checked
     requires { ⌜ (g ≤ 8388608) × (h .table + 4 * (g + 1) ≤ length (now s)) ⌝ }
-    ensures { λ r. ⌜ r ≡ anyBelow (badEntry (now (s .entry)) h) g ⌝ }
+    ensures { λ r. ⌜ (let file = now (s .entry) in
+        r ≡ inOrder (λ k. inGroup k (refuse (badEntry file h k) EntryBounds)) g) ⌝ }
 {
     let mut k: u32 = 0;
     while k < g {
         if bad_entry(s, h, k) {
-            return true;
+            return Checked::No(Refusal::EntryBounds, NOWHERE.at_group(k));
         }
         k += 1;
     }
-    false
+    Checked::Fine
 }
 
 // The refusals of the table. 16: the last entry is not the data size. Without groups 17: zero frames with data. With
@@ -151,19 +155,16 @@ pub fn check_table(s: &[u8], h: Fields) -> Checked
     let frames = h.frames;
     let g = frames.groups();
     if entry_at(s, h, g) != h.size {
-        return Checked::No(Refusal::LastEntry);
+        return Checked::No(Refusal::LastEntry, NOWHERE);
     }
     if g == 0 {
         if h.size != 0 {
-            return Checked::No(Refusal::DataWithoutFrames);
+            return Checked::No(Refusal::DataWithoutFrames, NOWHERE);
         }
         return Checked::Fine;
     }
     if entry_at(s, h, 0) != 0 {
-        return Checked::No(Refusal::FirstEntry);
+        return Checked::No(Refusal::FirstEntry, NOWHERE);
     }
-    if any_bad(s, h, g) {
-        return Checked::No(Refusal::EntryBounds);
-    }
-    Checked::Fine
+    check_entries(s, h, g)
 }

@@ -9,9 +9,10 @@ use native.Mathlib.Numerals.{add-one}
 use lib.Dec.{ltb, eqb}
 use borrow.Author.Tests.{lt-ltb, le-ltb, eq-eqb, ne-eqb}
 use Rattle.format.specs.Lists.{anyBelow}
-use Rattle.format.specs.Refusals.{refuse, _then_}
+use Rattle.format.specs.Refusals.{nowhere, refuse, _then_}
 use Rattle.format.specs.Answers.{refusedBy, answered, filled}
 use Rattle.format.specs.declared.refusals.Refusal.{Refusal}
+use Rattle.format.specs.declared.refusals.Place.{Place}
 use Rattle.format.specs.declared.refusals.Checked.{Checked}
 use Rattle.format.specs.declared.refusals.Checked.the-variants.{Fine, No}
 use Rattle.format.specs.declared.answers.Outcome.{Outcome}
@@ -23,11 +24,11 @@ use Rattle.laws.proofs.Checks.{found-below}
 
 module _ (r : Refusal) where
   -- a check whose test holds refuses, also before others
-  pub stop : (b : Bool) → b ≡ true → No r ≡ refuse b r
+  pub stop : (b : Bool) → b ≡ true → No r nowhere ≡ refuse b r
   unfolding refuse
   stop b h = rw h
 
-  pub stop-then : (b : Bool) (k : Checked) → b ≡ true → No r ≡ (refuse b r then k)
+  pub stop-then : (b : Bool) (k : Checked) → b ≡ true → No r nowhere ≡ (refuse b r then k)
   unfolding refuse _then_
   stop-then b k h = rw h
 
@@ -79,17 +80,17 @@ module _ (k a : Checked) (says : k ≡ a) where
   pub settled : (c : Checked) → k ≡ c → a ≡ c
   settled c e = sym says ∙ e
 
-  pub stops-at : (b : Checked) (r : Refusal) → k ≡ No r → No r ≡ (a then b)
+  pub stops-at : (b : Checked) (r : Refusal) (at : Place) → k ≡ No r at → No r at ≡ (a then b)
   unfolding _then_
-  stops-at b r e = rw (← says, e)
+  stops-at b r at e = rw (← says, e)
 
   pub passes-on : (b x : Checked) → k ≡ Fine → x ≡ b → x ≡ (a then b)
   unfolding _then_
   passes-on b x fine e = rw (← says, fine) e
 
   -- an entry that they refuse
-  module _ (b : Checked) (r : Refusal) (e : k ≡ No r) where
-    pub refuses : (o : Outcome) (x : Answer) → x ≡ refusedBy r → x ≡ answered (a then b) o
+  module _ (b : Checked) (r : Refusal) (at : Place) (e : k ≡ No r at) where
+    pub refuses : (o : Outcome) (x : Answer) → x ≡ refusedBy r at → x ≡ answered (a then b) o
     unfolding _then_
     refuses o x t = rw (← says, e) t
 
@@ -101,7 +102,7 @@ pub ruleset stages = (settled, stops-at, passes-on)
 
 -- then its room: n is there, m is asked for
 module _ (a : Checked) (fine : a ≡ Fine) (n m : ℕ) (r : Refusal) where
-  pub room-short : n < m → (a then refuse (ltb n m) r) ≡ No r
+  pub room-short : n < m → (a then refuse (ltb n m) r) ≡ No r nowhere
   unfolding refuse _then_
   room-short l = rw (fine, lt-ltb n m l)
 
@@ -126,10 +127,6 @@ pub ruleset either = (first-yes, second-says, lt-ltb, le-ltb, eq-eqb, ne-eqb, ar
 pub any-none : (p : ℕ → Bool) → anyBelow p 0 ≡ false
 unfolding anyBelow
 any-none p = refl
-
-pub any-zero : (p : ℕ → Bool) (n : ℕ) → n ≡ 0 → anyBelow p n ≡ false
-unfolding anyBelow
-any-zero p n e = rw e
 
 pub any-more : (p : ℕ → Bool) (k : ℕ) → anyBelow p k ≡ false → p k ≡ false → anyBelow p (k + 1) ≡ false
 unfolding anyBelow

@@ -9,6 +9,7 @@ use borrow.Author.Tests.{ltb-false, eq-eqb}
 use Rattle.format.specs.Lists.{anyBelow}
 use Rattle.format.specs.Refusals.{number, refuse, _then_, inOrder}
 use Rattle.format.specs.declared.refusals.Refusal.{Refusal}
+use Rattle.format.specs.declared.refusals.Place.{Place}
 use Rattle.format.specs.declared.refusals.Checked.{Checked}
 use Rattle.format.specs.declared.refusals.Checked.the-variants.{Fine, No}
 use Rattle.laws.proofs.Tests.{never, or-left, or-right}
@@ -38,25 +39,25 @@ _then-same_ {a} {b} {c} {d} e f = ap (λ (x : Checked). x then c) e ∙ by b f
   where
     by : (x : Checked) → (x ≡ Fine → c ≡ d) → (x then c) ≡ (x then d)
     by Fine g = g refl
-    by (No r) g = refl
+    by (No r at) g = refl
 
 pub first-fine : (a b : Checked) → (a then b) ≡ Fine → a ≡ Fine
 unfolding _then_
 first-fine Fine b e = refl
-first-fine (No r) b e = e
+first-fine (No r at) b e = e
 
 pub others-fine : (a b : Checked) → (a then b) ≡ Fine → b ≡ Fine
 unfolding _then_
 others-fine Fine b e = e
-others-fine (No r) b e = cc
+others-fine (No r at) b e = cc
 
 -- what passed the check of the room has room
 pub has-room : (a : Checked) (room m : ℕ) (r : Refusal) → (a then refuse (ltb room m) r) ≡ Fine → m ≤ room
 has-room a room m r e = ltb-false room m (passed _ _ (others-fine a _ e))
 
--- ---- which refusal: x is not what c says
+-- ---- which refusal: x is not what c says, of any place
 abbrev pub Unsaid : Refusal → Checked → Type 0
-Unsaid x c = c ≡ No x → ⊥
+Unsaid x c = (at : Place) → c ≡ No x at → ⊥
 
 -- a check that refuses by another number
 pub unsaid : (x r : Refusal) (b : Bool) → eqb (number r) (number x) ≡ false → Unsaid x (refuse b r)
@@ -64,8 +65,8 @@ unfolding refuse
 unsaid x r b differ = by b
   where
     by : (t : Bool) → Unsaid x (refuse t r)
-    by true e = let q : r ≡ x = cc in never (sym (eq-eqb (number r) (number x) (ap number q)) ∙ differ)
-    by false e = let z : true ≡ false = cc in never z
+    by true at e = let q : r ≡ x = cc in never (sym (eq-eqb (number r) (number x) (ap number q)) ∙ differ)
+    by false at e = let z : true ≡ false = cc in never z
 
 infixr 20 _nor_
 pub _nor_ : {x : Refusal} {a b : Checked} → Unsaid x a → Unsaid x b → Unsaid x (a then b)
@@ -74,18 +75,18 @@ _nor_ {x} {a} {b} p q = by a p
   where
     by : (c : Checked) → Unsaid x c → Unsaid x (c then b)
     by Fine h = q
-    by (No r) h = h
+    by (No r at) h = h
 
 -- what one of them does not say the other one says
-pub said-after : (x : Refusal) (a b : Checked) → Unsaid x a → (a then b) ≡ No x → (a ≡ Fine) × (b ≡ No x)
+pub said-after : (x : Refusal) (at : Place) (a b : Checked) → Unsaid x a → (a then b) ≡ No x at → (a ≡ Fine) × (b ≡ No x at)
 unfolding _then_
-said-after x Fine b p e = (refl, e)
-said-after x (No r) b p e = absurd (p e)
+said-after x at Fine b p e = (refl, e)
+said-after x at (No r there) b p e = absurd (p at e)
 
-pub said-before : (x : Refusal) (a b : Checked) → Unsaid x b → (a then b) ≡ No x → a ≡ No x
+pub said-before : (x : Refusal) (at : Place) (a b : Checked) → Unsaid x b → (a then b) ≡ No x at → a ≡ No x at
 unfolding _then_
-said-before x Fine b p e = absurd (p e)
-said-before x (No r) b p e = e
+said-before x at Fine b p e = absurd (p at e)
+said-before x at (No r there) b p e = e
 
 -- ---- as many as there are: P n says that Q holds of each k below n
 
@@ -134,31 +135,31 @@ module _ (p : ℕ → Bool) where
 -- ---- the first refusal
 
 -- checks in order refuse as the first that refuses, and only so
-pub record FirstRefuses (check : ℕ → Checked) (n : ℕ) (r : Refusal) : Type 0 where
+pub record FirstRefuses (check : ℕ → Checked) (n : ℕ) (r : Refusal) (place : Place) : Type 0 where
   pub at : ℕ
   pub below : at < n
   pub before : inOrder check at ≡ Fine
-  pub refuses : check at ≡ No r
+  pub refuses : check at ≡ No r place
 
-pub order-refuses : (check : ℕ → Checked) (n : ℕ) (r : Refusal) → FirstRefuses check n r → inOrder check n ≡ No r
+pub order-refuses : (check : ℕ → Checked) (n : ℕ) (r : Refusal) (place : Place) → FirstRefuses check n r place → inOrder check n ≡ No r place
 unfolding inOrder _then_
-order-refuses check zero r f = let z = f .below in absurd (omega arith)
-order-refuses check (suc n) r f =
+order-refuses check zero r place f = let z = f .below in absurd (omega arith)
+order-refuses check (suc n) r place f =
     ⊎-elim
     (λ (e : f .at ≡ n). ap₂ (λ (a b : Checked). a then b) (ap (inOrder check) (sym e) ∙ f .before) (ap check (sym e) ∙ f .refuses))
-    (λ (l : f .at < n). ap (λ (a : Checked). a then check n) (order-refuses check n r (record { at = f .at; below = l; before = f .before; refuses = f .refuses })))
+    (λ (l : f .at < n). ap (λ (a : Checked). a then check n) (order-refuses check n r place (record { at = f .at; below = l; before = f .before; refuses = f .refuses })))
     (below-suc (f .at) n (f .below))
 
-pub refusal-first : (check : ℕ → Checked) (n : ℕ) (r : Refusal) → inOrder check n ≡ No r → FirstRefuses check n r
+pub refusal-first : (check : ℕ → Checked) (n : ℕ) (r : Refusal) (place : Place) → inOrder check n ≡ No r place → FirstRefuses check n r place
 unfolding inOrder _then_
-refusal-first check zero r e = let z : _≡_ {A = ℕ} 0 1 = cc in absurd (omega arith)
-refusal-first check (suc n) r e = by (inOrder check n) refl (refusal-first check n)
+refusal-first check zero r place e = let z : _≡_ {A = ℕ} 0 1 = cc in absurd (omega arith)
+refusal-first check (suc n) r place e = by (inOrder check n) refl (refusal-first check n)
   where
-    by : (c : Checked) → inOrder check n ≡ c → ((r : Refusal) → inOrder check n ≡ No r → FirstRefuses check n r) → FirstRefuses check (suc n) r
+    by : (c : Checked) → inOrder check n ≡ c → ((r : Refusal) (place : Place) → inOrder check n ≡ No r place → FirstRefuses check n r place) → FirstRefuses check (suc n) r place
     by Fine q i = record { at = n; below = omega arith; before = q; refuses = sym (ap (λ (a : Checked). a then check n) q) ∙ e }
-    by (No x) q i =
-        let y : No x ≡ No r = sym (ap (λ (a : Checked). a then check n) q) ∙ e in
-        let f = i r (q ∙ y) in
+    by (No x there) q i =
+        let y : No x there ≡ No r place = sym (ap (λ (a : Checked). a then check n) q) ∙ e in
+        let f = i r place (q ∙ y) in
         record { at = f .at; below = lt-suc (f .at) n (f .below); before = f .before; refuses = f .refuses }
       where
         lt-suc : (a n : ℕ) → a < n → a < suc n

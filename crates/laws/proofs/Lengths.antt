@@ -16,6 +16,7 @@ use Rattle.format.specs.Blocks.{midBit, baseOf, codingOf, decoded, samplesOf, f
 use Rattle.format.specs.MidSide.{leftRight}
 use Rattle.format.specs.Opening.{formatOf, checkOpen}
 use Rattle.format.specs.Units.{active}
+use Rattle.format.specs.Places.{atGroup}
 use Rattle.format.specs.Decoding.{checkGroup, coded, channelsOf, woven, groupSamples, checkDecode, decodedOf}
 use Rattle.format.specs.declared.packed.Coding.{Coding}
 use Rattle.format.specs.declared.packed.Coding.the-variants.{Differences, Raw, Beyond}
@@ -26,7 +27,8 @@ use Rattle.format.specs.declared.answers.Fields.{Fields}
 use Rattle.laws.proofs.Tests.{never}
 use Rattle.laws.proofs.Parts.{length-tab, length-even}
 use Rattle.laws.proofs.Digits.{length-codes}
-use Rattle.laws.proofs.Checks.{first-fine, others-fine, order-fine}
+use Rattle.laws.proofs.Checks.{first-fine, others-fine}
+use Rattle.laws.proofs.Places.{located-at}
 use Rattle.laws.proofs.Opened.{some-channels, opened-fields}
 use Rattle.laws.proofs.Passed.{mid-two}
 
@@ -85,7 +87,7 @@ module _ (s : List ℕ) (fine : checkDecode s ≡ Fine) where
       let h = fieldsOf s in
       let e : min (h .frames .0) (512 * ((h .frames .0 + 511) / 512)) ≡ h .frames .0 = omega arith in
       active-sum (h .frames) (h .channels) (λ g. groupSamples h (formatOf s h) g (groupBytes s h g)) ((h .frames .0 + 511) / 512)
-      (λ g l. group-writes h (formatOf s h) (groupBytes s h g) (some-channels h (opened-fields s (first-fine _ _ fine))) (order-fine (λ g. checkGroup h (formatOf s h) (groupBytes s h g)) g ((h .frames .0 + 511) / 512) l (others-fine (checkOpen s) _ fine)) g)
+      (λ g l. group-writes h (formatOf s h) (groupBytes s h g) (some-channels h (opened-fields s (first-fine _ _ fine))) (located-at (λ g. checkGroup h (formatOf s h) (groupBytes s h g)) atGroup g ((h .frames .0 + 511) / 512) l (others-fine (checkOpen s) _ fine)) g)
       ∙ ap (λ (x : ℕ). h .channels * x) e
 
   pub decode-count : fieldsOf s .frames .0 * fieldsOf s .channels ≡ length (decodedOf s)

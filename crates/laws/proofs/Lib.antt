@@ -5,6 +5,7 @@ pub mod Tests
 pub mod Parts
 pub mod Each
 pub mod Checks
+pub mod Places
 pub mod Chain
 -- numbers: digits and packing over the width, codes and signs, widths and what they do not hold, wrapped sums and differences, halves of them
 pub mod Digits
@@ -30,3 +31,5 @@ pub mod Reading
 -- a template that passes: its blocks, groups and file, and that the new ones are as long
 pub mod Templates
 pub mod TemplateFiles
+-- where the checks refuse: those that name nothing, the first of those in order, and that a group's number is small
+pub mod Located

@@ -10,7 +10,7 @@ use lib.IntN.{ℤ, pos}
 use borrow.Author.Tests.{not-false}
 use Rattle.format.specs.Lists.{every, firstNot}
 use Rattle.format.specs.Numbers.{holds}
-use Rattle.format.specs.Refusals.{refuse}
+use Rattle.format.specs.Refusals.{nowhere, refuse}
 use Rattle.format.specs.Fit.{misfit, checkFit}
 use Rattle.format.specs.declared.refusals.Refusal.the-variants.{WidthTooSmall}
 use Rattle.format.specs.declared.refusals.Checked.the-variants.{Fine, No}
@@ -92,16 +92,16 @@ module _ (width : ℕ) (vs : List ℤ) where
   fine-fit e = not-false (every (holds width) vs) (passed (not (every (holds width) vs)) _ e)
 
   -- where 36 is refused it tells the first misfit
-  pub misfit-told : (k : ℕ) → checkFit width vs ≡ No (WidthTooSmall k) → FirstMisfit width vs k
+  pub misfit-told : (k : ℕ) → checkFit width vs ≡ No (WidthTooSmall k) nowhere → FirstMisfit width vs k
   unfolding checkFit misfit refuse
   misfit-told k e = by (every (holds width) vs) refl e
     where
-      by : (t : Bool) → every (holds width) vs ≡ t → refuse (not t) (WidthTooSmall (misfit width vs)) ≡ No (WidthTooSmall k) → FirstMisfit width vs k
+      by : (t : Bool) → every (holds width) vs ≡ t → refuse (not t) (WidthTooSmall (misfit width vs)) ≡ No (WidthTooSmall k) nowhere → FirstMisfit width vs k
       by true q f = let z : true ≡ false = cc in never z
       by false q f = let s : misfit width vs ≡ k = cc in rw (← s) (first-not (holds width) (pos 0) vs q)
 
   -- and only the first misfit is told
-  pub tells-misfit : (k : ℕ) → FirstMisfit width vs k → checkFit width vs ≡ No (WidthTooSmall k)
+  pub tells-misfit : (k : ℕ) → FirstMisfit width vs k → checkFit width vs ≡ No (WidthTooSmall k) nowhere
   unfolding checkFit misfit refuse
   tells-misfit k f =
       let i = is-first (holds width) (pos 0) vs k f in

@@ -9,14 +9,18 @@ use lib.Dec.{ltb}
 use borrow.Author.Tests.{ltb-false, eqb-true, eqb-false, not-false}
 use Rattle.format.specs.Header.{fieldsOf, groupsOf, entry}
 use Rattle.format.specs.Units.{bitsIn, isDepth, depthOf}
+use Rattle.format.specs.Refusals.{refuse}
+use Rattle.format.specs.Places.{atGroup}
 use Rattle.format.specs.Opening.{checkFields, checkOffsets, badEntry, checkTable, checkOpen}
 use Rattle.format.specs.declared.units.Depth.{Depth}
 use Rattle.format.specs.declared.units.Depth.the-variants.{Eight, Sixteen, TwentyFour, ThirtyTwo}
+use Rattle.format.specs.declared.refusals.Refusal.the-variants.{EntryBounds}
 use Rattle.format.specs.declared.refusals.Checked.the-variants.{Fine}
 use Rattle.format.specs.declared.answers.Fields.{Fields}
 use Rattle.format.proofs.UnitLaws.{depth-bits}
 use Rattle.laws.proofs.Tests.{or-left, or-right}
-use Rattle.laws.proofs.Checks.{passed, first-fine, others-fine, found-below}
+use Rattle.laws.proofs.Checks.{passed, first-fine, others-fine}
+use Rattle.laws.proofs.Places.{located-at}
 
 bits-range : (d : Depth) → (8 ≤ bitsIn d) × (bitsIn d ≤ 32)
 bits-range Eight = (omega arith, omega arith)
@@ -57,7 +61,7 @@ module _ (h : Fields) (n : ℕ) (fine : checkOffsets h n ≡ Fine) where
 module _ (s : List ℕ) (h : Fields) (fine : checkTable s h ≡ Fine) (k : ℕ) (l : k < groupsOf (h .frames)) where
   entry-good : badEntry s h k ≡ false
   unfolding checkTable
-  entry-good = found-below (badEntry s h) k (groupsOf (h .frames)) l (passed _ _ (others-fine _ _ (others-fine _ _ (others-fine _ _ fine))))
+  entry-good = passed _ EntryBounds (located-at (λ g. refuse (badEntry s h g) EntryBounds) atGroup k (groupsOf (h .frames)) l (others-fine _ _ (others-fine _ _ (others-fine _ _ fine))))
 
   abbrev past : Bool
   past = ltb (h .size) (entry s h (k + 1))

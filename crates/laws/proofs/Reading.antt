@@ -2,6 +2,7 @@
 -- 256, and one more check is the next of the definition's.
 use Prim.Native.Nat.{ℕ, zero, suc, _+_, _*_, _^_, _≤_, _<_}
 use mathlib.Core.Path.{_≡_, refl, sym, ap, _∙_, subst}
+use mathlib.Core.Bool.{Bool, true, false}
 use mathlib.Core.List.{List}
 use native.Mathlib.Nat.{mul-right-comm, pow-suc, zero-lt-suc}
 use native.Mathlib.Omega.{arith}
@@ -11,12 +12,15 @@ use lib.Seq.{drop-cons, drop-drop}
 use Rattle.format.specs.Lists.{from}
 use Rattle.format.specs.Numbers.{num, Below, numAt}
 use Rattle.format.specs.Blocks.{sizeOf, fromBlock}
-use Rattle.format.specs.Refusals.{_then_, inOrder}
+use Rattle.format.specs.Refusals.{nowhere, refuse, _then_, inOrder}
+use Rattle.format.specs.Places.{atGroup, inGroup}
 use Rattle.format.specs.declared.refusals.Refusal.{Refusal}
+use Rattle.format.specs.declared.refusals.Place.{Place}
 use Rattle.format.specs.declared.refusals.Checked.{Checked}
 use Rattle.format.specs.declared.refusals.Checked.the-variants.{Fine, No}
 use Rattle.laws.proofs.Each.{each-drop}
-use Rattle.laws.proofs.Checks.{order-refuses}
+use Rattle.laws.proofs.Checks.{pass, order-refuses}
+use Rattle.laws.proofs.Places.{fine-located, no-located}
 use Rattle.laws.proofs.Digits.{num-take-lt}
 
 -- ---- little-endian numbers, byte by byte
@@ -68,9 +72,9 @@ pub number-8 : (i : ℕ) (s : List ℕ) → i + 4 ≤ length s → numAt i 8 s �
 number-8 i s h = numbers-meet 4 4 i s h
 
 -- ---- a loop over checks: c have passed, and the next refuses or passes
-pub order-stops : (check : ℕ → Checked) (c n : ℕ) (r : Refusal) (k : Checked) → c < n → inOrder check c ≡ Fine → check c ≡ No r → No r ≡ (inOrder check n then k)
+pub order-stops : (check : ℕ → Checked) (c n : ℕ) (r : Refusal) (at : Place) (k : Checked) → c < n → inOrder check c ≡ Fine → check c ≡ No r at → No r at ≡ (inOrder check n then k)
 unfolding _then_
-order-stops check c n r k l p q = sym (ap (λ (x : Checked). x then k) (order-refuses check n r (record { at = c; below = l; before = p; refuses = q })))
+order-stops check c n r at k l p q = sym (ap (λ (x : Checked). x then k) (order-refuses check n r at (record { at = c; below = l; before = p; refuses = q })))
 
 pub order-more : (check : ℕ → Checked) (c : ℕ) → inOrder check c ≡ Fine → check c ≡ Fine → inOrder check (c + 1) ≡ Fine
 unfolding inOrder _then_
@@ -81,12 +85,41 @@ pub order-none : (check : ℕ → Checked) → inOrder check 0 ≡ Fine
 unfolding inOrder
 order-none check = refl
 
+pub order-zero : (check : ℕ → Checked) (n : ℕ) → n ≡ 0 → Fine ≡ inOrder check n
+unfolding inOrder
+order-zero check n e = rw e
+
 module _ (check : ℕ → Checked) (groups g n : ℕ) (all : groups ≡ n) (fine : inOrder check g ≡ Fine) where
-  pub order-ends : (r : Refusal) → g < groups → check g ≡ No r → No r ≡ inOrder check n
-  order-ends r l e = sym (order-refuses check n r (record { at = g; below = omega arith; before = fine; refuses = e }))
+  pub order-ends : (r : Refusal) (at : Place) → g < groups → check g ≡ No r at → No r at ≡ inOrder check n
+  order-ends r at l e = sym (order-refuses check n r at (record { at = g; below = omega arith; before = fine; refuses = e }))
 
   pub order-whole : g ≡ groups → Fine ≡ inOrder check n
   order-whole e = sym (subst (λ (k : ℕ). inOrder check k ≡ Fine) (e ∙ all) fine)
+
+-- the same of groups, each by its number
+module _ (check : ℕ → Checked) where
+  abbrev pub groupsIn : ℕ → Checked
+  groupsIn g = inGroup g (check g)
+
+  module _ (g : ℕ) (fine : inOrder groupsIn g ≡ Fine) where
+    pub group-ends : (groups n : ℕ) → groups ≡ n → g < groups → (r : Refusal) (from at : Place) → check g ≡ No r from → at ≡ atGroup g from → No r at ≡ inOrder groupsIn n
+    group-ends groups n all l r from at e p = order-ends groupsIn groups g n all fine r at l (no-located (atGroup g) (check g) r from e ∙ ap (No r) (sym p))
+
+    pub group-more : check g ≡ Fine → inOrder groupsIn (g + 1) ≡ Fine
+    group-more e = order-more groupsIn g fine (fine-located (atGroup g) (check g) e)
+
+-- and of one test of each
+module _ (test : ℕ → Bool) (r : Refusal) where
+  abbrev pub testsIn : ℕ → Checked
+  testsIn g = inGroup g (refuse (test g) r)
+
+  module _ (g : ℕ) (fine : inOrder testsIn g ≡ Fine) where
+    pub test-ends : (groups n : ℕ) → groups ≡ n → g < groups → test g ≡ true → (at : Place) → at ≡ atGroup g nowhere → No r at ≡ inOrder testsIn n
+    unfolding refuse
+    test-ends groups n all l h at p = group-ends (λ i. refuse (test i) r) g fine groups n all l r nowhere at (rw h) p
+
+    pub test-more : test g ≡ false → inOrder testsIn (g + 1) ≡ Fine
+    test-more h = group-more (λ i. refuse (test i) r) g fine (pass (test g) r h)
 
 -- ---- the place of channel c's block: what is left is what lies from it on
 pub rest-none : (depth : ℕ) (bs : List ℕ) → fromBlock depth bs 0 ≡ drop 0 bs

@@ -15,12 +15,14 @@ use mathlib.Core.Bool.{true}
 use Rattle.format.specs.Lists.{joined}
 use Rattle.format.specs.Header.{isSignature, fieldsOf, groupsOf, entry, groupBytes}
 use Rattle.format.specs.Encoding.{groupIn, checkSamples, framesOf}
+use Rattle.format.specs.Places.{atGroup}
 use Rattle.format.specs.Reencoding.{checkReencodeGroup, reencodedGroup, checkSame, checkBounds, checkRising, checkTemplate, checkReencoder, checkReencode, reencodedFile}
 use Rattle.format.specs.declared.refusals.Checked.the-variants.{Fine}
 use Rattle.format.specs.declared.settings.PcmSpec.{PcmSpec}
 use Rattle.format.specs.declared.answers.Fields.{Fields}
 use Rattle.laws.proofs.Parts.{below-suc, length-from}
-use Rattle.laws.proofs.Checks.{first-fine, others-fine, passed, order-fine, found-below}
+use Rattle.laws.proofs.Checks.{first-fine, others-fine, passed, found-below}
+use Rattle.laws.proofs.Places.{located-at}
 use Rattle.laws.proofs.SampleChecks.{frames-ok}
 use Rattle.laws.proofs.Templates.{new-group-length}
 
@@ -144,7 +146,7 @@ module _ (p : PcmSpec) (s : List ℤ) (t : List ℕ) (ok : checkReencode p s t �
   pub groups-ok : (g : ℕ) → g < n → checkReencodeGroup (f .depth) (f .channels) (groupBytes t f g) (groupIn (f .channels) s g) ≡ Fine
   unfolding checkReencode
   groups-ok g l =
-      order-fine (λ g. checkReencodeGroup (f .depth) (f .channels) (groupBytes t f g) (groupIn (f .channels) s g)) g n l
+      located-at (λ g. checkReencodeGroup (f .depth) (f .channels) (groupBytes t f g) (groupIn (f .channels) s g)) atGroup g n l
       (others-fine _ _ (others-fine _ _ (others-fine _ _ ok)))
 
   abbrev pub part : ℕ → List ℕ

@@ -16,12 +16,14 @@ use Rattle.format.specs.declared.packed.Coding.{Coding}
 use Rattle.format.specs.declared.packed.Coding.the-variants.{Differences, Raw, Beyond}
 use Rattle.format.specs.Blocks.{isBlock, midBit, codingOf, sizeOf, fromBlock}
 use Rattle.format.specs.Encoding.{unwoven, firstValue, midSide, parity}
+use Rattle.format.specs.Places.{atChannel}
 use Rattle.format.specs.Reencoding.{valuesFor, baseFor, reencodedBlock, checkTemplateBlock, checkReencodeBlock, activeIn, checkReencodeGroup, reencodedGroup}
 use Rattle.format.specs.Fit.{checkFit}
 use Rattle.format.specs.declared.refusals.Checked.the-variants.{Fine}
 use Rattle.laws.proofs.Tests.{asks-two}
 use Rattle.laws.proofs.Parts.{length-from}
-use Rattle.laws.proofs.Checks.{pass, _and-then_, first-fine, others-fine, passed, order-fine}
+use Rattle.laws.proofs.Checks.{pass, _and-then_, first-fine, others-fine, passed}
+use Rattle.laws.proofs.Places.{located-at}
 use Rattle.laws.proofs.Digits.{length-le}
 use Rattle.laws.proofs.Signs.{AllHold, length-packing, every-holds}
 use Rattle.laws.proofs.Misfits.{fine-fit}
@@ -160,7 +162,7 @@ module _ (depth n : ℕ) (bs : List ℕ) (s : List ℤ) (fine : checkReencodeGro
   blocks-fine : (c : ℕ) → c < n → checkReencodeBlock depth (r c) (getD chans c []) ≡ Fine
   unfolding checkReencodeGroup
   blocks-fine c q =
-      order-fine (λ c. checkReencodeBlock depth (r c) (getD chans c [])) c n q (first-fine _ _ (others-fine _ _ (others-fine _ _ (others-fine _ _ fine))))
+      located-at (λ c. checkReencodeBlock depth (r c) (getD chans c [])) atChannel c n q (first-fine _ _ (others-fine _ _ (others-fine _ _ (others-fine _ _ fine))))
 
   pub blocks-ok : (c : ℕ) → c < n → Template depth (r c)
   blocks-ok c q = template-ok depth (r c) (getD chans c []) (blocks-fine c q)

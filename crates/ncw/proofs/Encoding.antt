@@ -4,7 +4,7 @@ use mathlib.Core.Path.{_≡_, refl, ap, _∙_}
 use mathlib.Core.List.{List}
 use lib.ListN.{length}
 use borrow.Author.Tests.{lt-ltb, le-ltb, ne-eqb}
-use Rattle.format.specs.Refusals.{refuse, _then_}
+use Rattle.format.specs.Refusals.{nowhere, refuse, _then_}
 use Rattle.format.specs.Encoding.{encodedFile, checkEncodeInto, encodeOf, encodeInto}
 use Rattle.format.specs.Boundary.{samplesFrom, isMode, modeOf, checkMode, result, checkHostEncode, hostEncode, hostEncodeInto}
 use Rattle.format.specs.declared.refusals.Refusal.{Refusal}
@@ -31,16 +31,16 @@ module _ (m : ℕ) where
   mode-both p q = rw (ne-eqb m 0 p, ne-eqb m 1 q)
 
 module _ (b : List ℕ) (p : PcmSpec) (m : ℕ) where
-  told-no : (room : ℕ) (r : Refusal) (x : ℕ) → checkHostEncode b p m room ≡ No r → x ≡ result (Refused r) → x ≡ hostEncode b p m room
+  told-no : (room : ℕ) (r : Refusal) (x : ℕ) → checkHostEncode b p m room ≡ No r nowhere → x ≡ result (Refused r) → x ≡ hostEncode b p m room
   unfolding hostEncode
-  told-no room r x e t = refusal-told (checkHostEncode b p m room) r e (Wrote (length (encodedFile p (modeOf m) (samplesFrom b)))) x t
+  told-no room r x e t = refusal-told (checkHostEncode b p m room) r nowhere e (Wrote (length (encodedFile p (modeOf m) (samplesFrom b)))) x t
 
-  keeps : (out : List ℕ) (r : Refusal) → checkHostEncode b p m (length out) ≡ No r → out ≡ hostEncodeInto b p m out
+  keeps : (out : List ℕ) (r : Refusal) → checkHostEncode b p m (length out) ≡ No r nowhere → out ≡ hostEncodeInto b p m out
   unfolding hostEncodeInto
-  keeps out r e = refusal-keeps (checkHostEncode b p m (length out)) r e (encodedFile p (modeOf m) (samplesFrom b)) out
+  keeps out r e = refusal-keeps (checkHostEncode b p m (length out)) r nowhere e (encodedFile p (modeOf m) (samplesFrom b)) out
 
   module _ (other : 3 ≤ m) where
-    mode-no : (room : ℕ) → checkHostEncode b p m room ≡ No UnknownMode
+    mode-no : (room : ℕ) → checkHostEncode b p m room ≡ No UnknownMode nowhere
     unfolding checkHostEncode checkMode isMode refuse _then_
     mode-no room = rw (le-ltb m 3 other) refl
 
@@ -52,7 +52,7 @@ module _ (b : List ℕ) (p : PcmSpec) (m : ℕ) where
 
   module _ (known : m < 3) where
     module _ (part : length b % 4 ≡ 0 → ⊥) where
-      bytes-no : (room : ℕ) → checkHostEncode b p m room ≡ No SampleBytes
+      bytes-no : (room : ℕ) → checkHostEncode b p m room ≡ No SampleBytes nowhere
       unfolding checkHostEncode checkMode isMode refuse _then_
       bytes-no room = rw (lt-ltb m 3 known, bytes-refused b part) refl
 

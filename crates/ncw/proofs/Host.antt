@@ -1,5 +1,5 @@
 -- What the host is told and finds in its bytes, from what opening and decoding answer and put.
-use Prim.Native.Nat.{ℕ, _*_, _/_, _≤_}
+use Prim.Native.Nat.{ℕ, _*_, _/_, _≤_, _<_}
 use mathlib.Core.Path.{_≡_, refl, sym, ap, _∙_}
 use mathlib.Core.List.{List}
 use native.Mathlib.Omega.{arith}
@@ -10,12 +10,15 @@ use Rattle.format.specs.Refusals.{_then_}
 use Rattle.format.specs.Answers.{filled}
 use Rattle.format.specs.Opening.{openOf}
 use Rattle.format.specs.Decoding.{checkDecode, decodedOf, checkRoom, decodeOf, decodeInto}
-use Rattle.format.specs.Boundary.{samplesFrom, sampleBytes, result, hostOpen, hostDecode, hostDecodeInto}
+use Rattle.format.specs.Boundary.{samplesFrom, sampleBytes, result, hostOpen, hostDecode, hostDecodeInto, refusalWord, hostDecodeRefusal}
+use Rattle.format.specs.declared.refusals.Refusal.{Refusal}
 use Rattle.format.specs.declared.refusals.Refusal.the-variants.{OutputTooShort}
+use Rattle.format.specs.declared.refusals.Place.{Place}
 use Rattle.format.specs.declared.refusals.Checked.{Checked}
 use Rattle.format.specs.declared.refusals.Checked.the-variants.{Fine, No}
 use Rattle.format.specs.declared.answers.Answer.{Answer}
 use Rattle.laws.proofs.Checks.{first-fine, has-room}
+use Rattle.laws.proofs.Located.{decode-group-few}
 use Rattle.laws.proofs.Lengths.{decode-count}
 use Rattle.lent_samples.proofs.Laws.{length-lent}
 use Rattle.lent_samples.proofs.Outcome.{same-bytes, bytes-over}
@@ -41,4 +44,12 @@ put-bytes s b d hb hd p q = by (checkDecode s then checkRoom s (length b / 4)) r
   where
     by : (k : Checked) → (checkDecode s then checkRoom s (length b / 4)) ≡ k → samplesFrom d ≡ filled k (decodedOf s) (samplesFrom b) → d ≡ filled k (sampleBytes (decodedOf s)) b
     by Fine e t = bytes-over (decodedOf s) b d hb hd (decoded-room s (length b / 4) e) t q
-    by (No r) e t = sym (same-bytes b d hb hd (sym t) (sym q))
+    by (No r at) e t = sym (same-bytes b d hb hd (sym t) (sym q))
+
+-- what it would be told: of as many samples as fit into so many bytes
+pub word-decode : (s : List ℕ) (room : ℕ) (k : Checked) (x : ℕ) → k ≡ (checkDecode s then checkRoom s (room / 4)) → x ≡ refusalWord k → x ≡ hostDecodeRefusal s room
+unfolding hostDecodeRefusal
+word-decode s room k x e w = w ∙ ap refusalWord e
+
+pub group-few : (s : List ℕ) → Below 256 s → (room : ℕ) (k : Checked) → k ≡ (checkDecode s then checkRoom s room) → (r : Refusal) (at : Place) → k ≡ No r at → at .group < 8388608
+group-few s byte room k e r at n = decode-group-few s room byte r at (sym e ∙ n)

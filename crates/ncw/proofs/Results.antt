@@ -57,7 +57,7 @@ read-fits o n few e = record { fits = few n e }
 -- what is answered counts samples that were read only where it is so on success
 reads-few : (k : Checked) (o : Outcome) (n : Samples) → (o ≡ Read n → 4 * n .0 < 2 ^ 64) → answered k o .outcome ≡ Read n → 4 * n .0 < 2 ^ 64
 reads-few Fine o n few q = few q
-reads-few (No r) o n few q = let none : true ≡ false = cc in never none
+reads-few (No r at) o n few q = let none : true ≡ false = cc in never none
 
 pub refused-reads-none : (r : Refusal) (n : Samples) → Refused r ≡ Read n → 4 * n .0 < 2 ^ 64
 refused-reads-none r n q = let none : true ≡ false = cc in never none

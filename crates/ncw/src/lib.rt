@@ -1,7 +1,13 @@
 // The host boundary, on numbers and byte slices: samples are 4 little-endian bytes each.
+mod words;
+
+use crate::words::refusal_word;
+use format::Checked;
+use format::NOWHERE;
 use format::Outcome;
 use format::PcmSpec;
 use format::Refusal;
+use format::Samples;
 use format::StereoMode;
 use lent_samples::Container;
 ghost use mathlib.Core.Path.{_≡_};
@@ -11,6 +17,7 @@ ghost use Rattle.format.specs.declared.units.Samples.{Samples};
 ghost use Rattle.format.specs.declared.answers.Outcome.the-variants.{Read};
 ghost use Rattle.format.specs.Boundary.{modeOf, result};
 ghost use Rattle.format.specs.Promises.{HostOpens, HostDecodes, HostEncodes, HostReencodes};
+ghost use Rattle.format.specs.Promises.{HostDecodeRefuses, HostReencodeRefuses};
 
 // The length in bytes (for opening, what decoding would write), or 2^63 plus the refusal number.
 fn result(outcome: Outcome) -> u64
@@ -116,4 +123,39 @@ pub extern "C" fn ncw_reencode(
     let answer = template::reencode_lent(Container::Bytes, &[], samples, p, template, file);
     let outcome = answer.outcome;
     result(outcome)
+}
+
+// What `ncw_decode` refuses in so many bytes of room, and where; 0 where it decodes. Nothing is written.
+#[no_mangle]
+pub extern "C" fn ncw_decode_refusal(file: &[u8], room: u64) -> u64
+    ensures { λ r. ⌜ HostDecodeRefuses (now (file .entry)) room r ⌝ }
+{
+    let checked = reader::check_decode(file, Samples(room / 4));
+    refusal_word(checked)
+}
+
+// What `ncw_reencode` refuses in so many bytes of room, and where; 0 where it re-encodes. Nothing is written.
+#[no_mangle]
+pub extern "C" fn ncw_reencode_refusal(
+    samples: &[u8],
+    channels: u16,
+    depth: u16,
+    rate: u32,
+    template: &[u8],
+    room: u64,
+) -> u64
+    ensures { λ r. ⌜ (let spec : PcmSpec =
+        record { channels = channels; «bits_per_sample» = depth; «sample_rate» = rate } in
+        HostReencodeRefuses (now (samples .entry)) spec (now (template .entry)) room r) ⌝ }
+{
+    if samples.len() % 4 != 0 {
+        return refusal_word(Checked::No(Refusal::SampleBytes, NOWHERE));
+    }
+    let p = PcmSpec {
+        channels,
+        bits_per_sample: depth,
+        sample_rate: rate,
+    };
+    let checked = template::check_reencode(Container::Bytes, &[], samples, p, template, room);
+    refusal_word(checked)
 }

@@ -1,4 +1,5 @@
 // What opening says of a file of up to 65,536 bytes, printed: the job of `ncw_open`.
+use format::Outcome;
 ghost use mathlib.Core.Path.{_≡_};
 ghost use lib.ListN.{replicate};
 
@@ -17,7 +18,14 @@ fn print_file(file: &[u8]) {
         report::print(b"too large\n");
         return;
     }
-    report::print_opened(opening::open(file), b"\n");
+    let answer = opening::open(file);
+    let outcome = answer.outcome;
+    if let Outcome::Refused(r) = outcome {
+        report::print_refusal(r);
+        report::print(b"\n");
+        return;
+    }
+    report::print_opened(answer, b"\n");
 }
 
 // Reads `input` to its end, or as far as is taken, and prints what opening says of it.

@@ -11,7 +11,7 @@ use borrow.Author.Tests.{ne-eqb}
 use borrow.Rule.Slice.PartAt.{part-to-end}
 use Rattle.format.specs.Header.{fieldsOf, groupsOf}
 use Rattle.format.specs.Blocks.{isBlock, floatBit}
-use Rattle.format.specs.Refusals.{refuse}
+use Rattle.format.specs.Refusals.{nowhere, refuse}
 use Rattle.format.specs.Opening.{checkFirst, formatOf, checkOpen}
 use Rattle.format.specs.declared.refusals.Refusal.the-variants.{BlockSignature}
 use Rattle.format.specs.declared.refusals.Checked.the-variants.{Fine, No}
@@ -52,7 +52,7 @@ module _ (s : List ℕ) (h : Fields) (g : ℕ) (counted : g ≡ groupsOf (h .fra
       block-is : isBlock (drop (h .start) s) ≡ b
       block-is = ap isBlock (sym (part-to-end s (h .start))) ∙ sym answers
 
-      pub first-bad : b ≡ false → No BlockSignature ≡ checkFirst s h
+      pub first-bad : b ≡ false → No BlockSignature nowhere ≡ checkFirst s h
       unfolding checkFirst refuse
       first-bad e = rw (← counted, ne-eqb g 0 some, block-is, e)
 

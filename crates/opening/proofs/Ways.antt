@@ -9,12 +9,14 @@ use borrow.Author.Tests.{le-ltb}
 use Rattle.format.specs.Header.{isSignature, fieldsOf, groupsOf}
 use Rattle.format.specs.Refusals.{refuse, _then_}
 use Rattle.format.specs.Opening.{checkFields, checkOffsets, checkTable, checkFirst, checkOpen, headerOf, openOf}
+use Rattle.format.specs.Answers.{answeredBy, refusedBy}
 use Rattle.format.specs.declared.refusals.Refusal.{Refusal}
+use Rattle.format.specs.declared.refusals.Place.{Place}
 use Rattle.format.specs.declared.refusals.Checked.{Checked}
 use Rattle.format.specs.declared.refusals.Checked.the-variants.{Fine, No}
 use Rattle.format.specs.declared.answers.Fields.{Fields}
 use Rattle.format.specs.declared.answers.Header.{Header}
-use Rattle.format.specs.declared.answers.Outcome.the-variants.{Opened, Refused}
+use Rattle.format.specs.declared.answers.Outcome.the-variants.{Opened}
 use Rattle.laws.proofs.Opened.{data-past, data-within, first-within, opened-long}
 
 -- ---- the checks in order
@@ -40,13 +42,13 @@ in-first s h a b d ea ta eb tb ed td = first-within s h (sym ea ∙ ta) (sym eb 
 -- ---- the answer
 
 module _ (s : List ℕ) (a : Checked) (checked : a ≡ checkOpen s) where
-  pub refused : (r : Refusal) → a ≡ No r → record { outcome = Refused r } ≡ openOf s
+  pub refused : (r : Refusal) (at : Place) → a ≡ No r at → refusedBy r at ≡ openOf s
   unfolding openOf
-  refused r t = rw (← checked, t)
+  refused r at t = rw (← checked, t)
 
   pub fields-there : a ≡ Fine → 32 ≤ length s
   fields-there t = omega (arith, opened-long s (sym checked ∙ t))
 
-  pub opened : a ≡ Fine → (w : Header) → w ≡ headerOf s → record { outcome = Opened w } ≡ openOf s
+  pub opened : a ≡ Fine → (w : Header) → w ≡ headerOf s → answeredBy (Opened w) ≡ openOf s
   unfolding openOf
   opened t w e = rw (← checked, t, e)

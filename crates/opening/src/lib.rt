@@ -5,6 +5,7 @@ use format::Checked;
 use format::Depth;
 use format::Fields;
 use format::Header;
+use format::NOWHERE;
 use format::Outcome;
 use format::Refusal;
 use format::SampleFormat;
@@ -27,7 +28,7 @@ fn check_first(s: &[u8], h: Fields) -> Checked
     }
     let at = h.start as usize;
     if block::is_block(&s[at..]) {} else {
-        return Checked::No(Refusal::BlockSignature);
+        return Checked::No(Refusal::BlockSignature, NOWHERE);
     }
     Checked::Fine
 }
@@ -37,20 +38,20 @@ pub fn check_open(s: &[u8]) -> Checked
     ensures { λ r. ⌜ r ≡ checkOpen (now (s .entry)) ⌝ }
 {
     if s.len() < Depth::HEADER_SIZE {
-        return Checked::No(Refusal::TooShort);
+        return Checked::No(Refusal::TooShort, NOWHERE);
     }
     if header::is_signature(s) {} else {
-        return Checked::No(Refusal::FileSignature);
+        return Checked::No(Refusal::FileSignature, NOWHERE);
     }
     let h = header::read_fields(s);
-    if let Checked::No(r) = header::check_fields(h) {
-        return Checked::No(r);
+    if let Checked::No(r, place) = header::check_fields(h) {
+        return Checked::No(r, place);
     }
-    if let Checked::No(r) = header::check_offsets(h, s.len()) {
-        return Checked::No(r);
+    if let Checked::No(r, place) = header::check_offsets(h, s.len()) {
+        return Checked::No(r, place);
     }
-    if let Checked::No(r) = header::check_table(s, h) {
-        return Checked::No(r);
+    if let Checked::No(r, place) = header::check_table(s, h) {
+        return Checked::No(r, place);
     }
     check_first(s, h)
 }
@@ -105,8 +106,8 @@ fn header_of(s: &[u8]) -> Header
 pub fn open(file: &[u8]) -> Answer
     ensures { λ r. ⌜ Opens (now (file .entry)) r ⌝ }
 {
-    if let Checked::No(r) = check_open(file) {
-        return Answer::refused(r);
+    if let Checked::No(r, place) = check_open(file) {
+        return Answer::refused(r, place);
     }
     Answer::of(Outcome::Opened(header_of(file)))
 }

@@ -12,17 +12,18 @@ use Rattle.format.specs.Packed.{packing}
 use Rattle.format.specs.Answers.{filled}
 use Rattle.format.specs.Fit.{checkFit}
 use Rattle.format.specs.declared.refusals.Refusal.{Refusal}
+use Rattle.format.specs.declared.refusals.Place.{Place}
 use Rattle.format.specs.declared.refusals.Checked.{Checked}
 use Rattle.format.specs.declared.refusals.Checked.the-variants.{Fine, No}
 use Rattle.laws.proofs.Signs.{length-packing}
 use Rattle.laws.proofs.Misfits.{fine-fit}
 
 module _ (b : ℕ) (vs : List ℤ) (k : Checked) (says : k ≡ checkFit b vs) where
-  pub unfit : (r : Refusal) → k ≡ No r → No r ≡ checkFit b vs
-  unfit r t = sym t ∙ says
+  pub unfit : (r : Refusal) (at : Place) → k ≡ No r at → No r at ≡ checkFit b vs
+  unfit r at t = sym t ∙ says
 
-  pub unfilled : (r : Refusal) (s : List ℕ) → k ≡ No r → s ≡ filled (checkFit b vs) (packing b vs) s
-  unfilled r s t = rw (← says, t)
+  pub unfilled : (r : Refusal) (at : Place) (s : List ℕ) → k ≡ No r at → s ≡ filled (checkFit b vs) (packing b vs) s
+  unfilled r at s t = rw (← says, t)
 
   module _ (fine : k ≡ Fine) where
     pub fit : Fine ≡ checkFit b vs

@@ -17,7 +17,7 @@ use mir.ValLaws.{toZ-ofZ}
 use borrow.Author.Tests.{ltb-true, ltb-false, lt-ltb, le-ltb}
 use Rattle.format.specs.Lists.{every, firstNot}
 use Rattle.format.specs.Numbers.{holds}
-use Rattle.format.specs.Refusals.{refuse}
+use Rattle.format.specs.Refusals.{nowhere, refuse}
 use Rattle.format.specs.Fit.{misfit, checkFit}
 use Rattle.format.specs.declared.refusals.Refusal.the-variants.{WidthTooSmall}
 use Rattle.format.specs.declared.refusals.Checked.the-variants.{Fine, No}
@@ -108,6 +108,6 @@ module _ (vs : List ℤ) (m b p : ℕ) (all : StandsFor m vs) (power : p ≡ 2 ^
   pub fits-all : m < p → Fine ≡ checkFit b vs
   fits-all h = sym (fit-fine b vs (holds-all h))
 
-  pub fits-not : p ≤ m → (k : ℕ) → k ≡ misfit b vs → No (WidthTooSmall k) ≡ checkFit b vs
+  pub fits-not : p ≤ m → (k : ℕ) → k ≡ misfit b vs → No (WidthTooSmall k) nowhere ≡ checkFit b vs
   unfolding checkFit refuse
   fits-not h k e = rw (e, holds-some h)

@@ -2,6 +2,7 @@
 use bits::pow2;
 use format::Checked;
 use format::Depth;
+use format::NOWHERE;
 use format::Refusal;
 use le_bytes::put_u32_le;
 ghost use mathlib.Core.Path.{_≡_};
@@ -131,7 +132,7 @@ pub fn check_fit(values: [i32; 512], bits: u32) -> Checked
     if (folded_bits(&values) as u64) < pow2(bits - 1) {
         return Checked::Fine;
     }
-    Checked::No(Refusal::WidthTooSmall(first_misfit(&values, bits)))
+    Checked::No(Refusal::WidthTooSmall(first_misfit(&values, bits)), NOWHERE)
 }
 
 // Fills the run with the codes of all values, which the width holds.
@@ -152,8 +153,8 @@ pub fn pack(values: [i32; 512], bits: u32, run: &mut [u8]) -> Checked
     ensures { λ r. ⌜ (let fit = checkFit bits values in
         (r ≡ fit) × (now (run .exit) ≡ filled fit (packing bits values) (now (run .entry)))) ⌝ }
 {
-    if let Checked::No(r) = check_fit(values, bits) {
-        return Checked::No(r);
+    if let Checked::No(r, place) = check_fit(values, bits) {
+        return Checked::No(r, place);
     }
     put_all(values, bits, run);
     Checked::Fine

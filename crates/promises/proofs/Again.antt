@@ -14,10 +14,11 @@ use Rattle.promises.proofs.Refile as R
 use Rattle.format.specs.Lists.{joined, over}
 use Rattle.format.specs.Header.{fieldsOf, groupsOf, entry, groupBytes}
 use Rattle.format.specs.Refusals.{refuse, _then_, inOrder}
+use Rattle.format.specs.Places.{inGroup}
 use Rattle.format.specs.Answers.{answered, filled}
 use Rattle.format.specs.Encoding.{groupIn, checkSamples, framesOf}
 use Rattle.format.specs.Reencoding.{checkReencodeGroup, reencodedGroup, checkSame, checkBounds, checkRising, checkTemplate, checkReencode, checkReencodeInto, reencodedFile, reencodeOf, reencodeInto}
-use Rattle.format.specs.Boundary.{samplesFrom, checkBytes, result, checkHostReencode, hostReencode, hostReencodeInto}
+use Rattle.format.specs.Boundary.{samplesFrom, checkBytes, result, checkHostReencode, hostReencode, hostReencodeInto, refusalWord, hostReencodeRefusal}
 use Rattle.format.specs.declared.refusals.Refusal.the-variants.{TooShort, FileSignature, TemplateOffsets, OutputTooShort}
 use Rattle.format.specs.declared.refusals.Checked.{Checked}
 use Rattle.format.specs.declared.refusals.Checked.the-variants.{Fine, No}
@@ -91,10 +92,11 @@ module _ (p : PcmSpec) (s : List ℤ) (t : List ℕ) (ok : checkReencode p s t �
         refl
         then-same λ a. refl
         then-same λ samples. template-same
-        then-same λ template. ap (λ (x : Fields). inOrder (λ g. checkReencodeGroup (x .depth) (x .channels) (groupBytes t′ x g) (groupIn (x .channels) z g)) (groupsOf (x .frames))) fields-same
+        then-same λ template. ap (λ (x : Fields). inOrder (λ g. inGroup g (checkReencodeGroup (x .depth) (x .channels) (groupBytes t′ x g) (groupIn (x .channels) z g))) (groupsOf (x .frames))) fields-same
         ∙ order-cong _ _ count
-        (λ g l. ap (λ (b : List ℕ). checkReencodeGroup (h .depth) n b (groupIn n z g)) (R.group-new p s t ok g l)
-        ∙ group-checks-same (R.accepted p s t ok g l) (groupIn n z g) (parts-long template samples g l))
+        (λ g l. ap (λ (k : Checked). inGroup g k)
+        (ap (λ (b : List ℕ). checkReencodeGroup (h .depth) n b (groupIn n z g)) (R.group-new p s t ok g l)
+        ∙ group-checks-same (R.accepted p s t ok g l) (groupIn n z g) (parts-long template samples g l)))
 
     -- and gives the same
     pub same-file : checkReencode q z t ≡ Fine → reencodedFile z t′ ≡ reencodedFile z t
@@ -123,7 +125,7 @@ module _ (p : PcmSpec) (s : List ℤ) (t : List ℕ) (ok : checkReencode p s t �
       where
         by : (c : Checked) → checkReencodeInto q z t (length lent) ≡ c → filled c (reencodedFile z t′) lent ≡ filled c (reencodedFile z t) lent
         by Fine e = ap (λ (f : List ℕ). over f lent) (same-file (first-fine _ _ e))
-        by (No r) e = refl
+        by (No r at) e = refl
 
   -- ---- and so it does at the host boundary, of any bytes
   module _ (b : List ℕ) (q : PcmSpec) (room : List ℕ) where
@@ -136,7 +138,12 @@ module _ (p : PcmSpec) (s : List ℤ) (t : List ℕ) (ok : checkReencode p s t �
       where
         by : (c : Checked) → result (answered (c then checkReencodeInto q z t′ (length room)) (Wrote (length t′)) .outcome) ≡ result (answered (c then checkReencodeInto q z t (length room)) (Wrote (length t)) .outcome)
         by Fine = ap (λ (a : Answer). result (a .outcome)) (says-same q z (length room))
-        by (No r) = refl
+        by (No r at) = refl
+
+    -- and what it would refuse, and where
+    pub host-word-same : (much : ℕ) → hostReencodeRefusal b q t′ much ≡ hostReencodeRefusal b q t much
+    unfolding hostReencodeRefusal checkHostReencode
+    host-word-same much = ap (λ (c : Checked). refusalWord (checkBytes b then c)) (into-same q z much)
 
     pub host-leaves-same : hostReencodeInto b q t′ room ≡ hostReencodeInto b q t room
     unfolding hostReencodeInto checkHostReencode reencodeInto _then_
@@ -144,4 +151,4 @@ module _ (p : PcmSpec) (s : List ℤ) (t : List ℕ) (ok : checkReencode p s t �
       where
         by : (c : Checked) → filled (c then checkReencodeInto q z t′ (length room)) (reencodedFile z t′) room ≡ filled (c then checkReencodeInto q z t (length room)) (reencodedFile z t) room
         by Fine = leaves-same q z room
-        by (No r) = refl
+        by (No r at) = refl

@@ -16,9 +16,10 @@ use Rattle.format.specs.Walking.{stepSamples, stepCount, hasGroup, checkWalk, s
 use Rattle.format.specs.Encoding.{encodedFile, checkEncode, checkEncodeInto, encodeOf, encodeInto}
 use Rattle.format.specs.Reencoding.{reencodedFile, checkReencode, checkReencodeInto, reencodeOf, reencodeInto}
 use Rattle.format.specs.Boundary.{samplesFrom, sampleBytes, modeOf, checkMode, checkBytes, result, hostDecode, hostDecodeInto, checkHostEncode, hostEncode, hostEncodeInto, checkHostReencode, hostReencode, hostReencodeInto}
-use Rattle.format.specs.Promises.{Opens, Decodes, Steps, Advances, Encodes, Reencodes, HostOpens, HostDecodes, HostEncodes, HostReencodes}
+use Rattle.format.specs.Promises.{Opens, Decodes, Steps, Advances, Encodes, Reencodes, HostOpens, HostDecodes, HostEncodes, HostReencodes, HostDecodeRefuses, HostReencodeRefuses}
 use Rattle.format.specs.declared.units.Samples.{Samples}
 use Rattle.format.specs.declared.refusals.Refusal.{Refusal}
+use Rattle.format.specs.declared.refusals.Place.{Place}
 use Rattle.format.specs.declared.refusals.Refusal.the-variants.{OutputTooShort}
 use Rattle.format.specs.declared.refusals.Checked.{Checked}
 use Rattle.format.specs.declared.refusals.Checked.the-variants.{Fine, No}
@@ -37,13 +38,13 @@ use Rattle.promises.proofs.WalkLaws.{step-moves}
 -- ---- each refusal has its exact condition: what the checks say, which stand in document 01's order
 
 pub record RefusedExactly : Type 0 where
-  pub opens : (s : List ℕ) (r : Answer) (x : Refusal) → Opens s r → Exactly (r ≡ refusedBy x) (checkOpen s ≡ No x)
-  pub decodes : (s : List ℕ) (lent after : List ℤ) (r : Answer) (x : Refusal) → Decodes s lent r after → Exactly (r ≡ refusedBy x) ((checkDecode s then checkRoom s (length lent)) ≡ No x)
-  pub steps : (s : List ℕ) (g : ℕ) (lent after : List ℤ) (r : Answer) (x : Refusal) → Steps s g lent r after → Exactly (r ≡ refusedBy x) (checkWalk s g (length lent) ≡ No x)
-  pub encodes : (p : PcmSpec) (mode : StereoMode) (s : List ℤ) (lent after : List ℕ) (r : Answer) (x : Refusal) → Encodes p mode s lent r after
-      → Exactly (r ≡ refusedBy x) (checkEncodeInto p mode s (length lent) ≡ No x)
-  pub reencodes : (p : PcmSpec) (s : List ℤ) (t lent after : List ℕ) (r : Answer) (x : Refusal) → Reencodes p s t lent r after
-      → Exactly (r ≡ refusedBy x) (checkReencodeInto p s t (length lent) ≡ No x)
+  pub opens : (s : List ℕ) (r : Answer) (x : Refusal) (at : Place) → Opens s r → Exactly (r ≡ refusedBy x at) (checkOpen s ≡ No x at)
+  pub decodes : (s : List ℕ) (lent after : List ℤ) (r : Answer) (x : Refusal) (at : Place) → Decodes s lent r after → Exactly (r ≡ refusedBy x at) ((checkDecode s then checkRoom s (length lent)) ≡ No x at)
+  pub steps : (s : List ℕ) (g : ℕ) (lent after : List ℤ) (r : Answer) (x : Refusal) (at : Place) → Steps s g lent r after → Exactly (r ≡ refusedBy x at) (checkWalk s g (length lent) ≡ No x at)
+  pub encodes : (p : PcmSpec) (mode : StereoMode) (s : List ℤ) (lent after : List ℕ) (r : Answer) (x : Refusal) (at : Place) → Encodes p mode s lent r after
+      → Exactly (r ≡ refusedBy x at) (checkEncodeInto p mode s (length lent) ≡ No x at)
+  pub reencodes : (p : PcmSpec) (s : List ℤ) (t lent after : List ℕ) (r : Answer) (x : Refusal) (at : Place) → Reencodes p s t lent r after
+      → Exactly (r ≡ refusedBy x at) (checkReencodeInto p s t (length lent) ≡ No x at)
 
 left-or-done : (b : Bool) (n : Samples) → isRefused (cond b (Read n) Finished) ≡ false
 left-or-done true n = refl
@@ -53,12 +54,12 @@ pub refused-exactly : RefusedExactly
 unfolding openOf decodeOf stepOf encodeOf reencodeOf
 refused-exactly =
     record {
-      opens = λ s r x e. exactly-no (checkOpen s) (Opened (headerOf s)) refl x r e;
-      decodes = λ s lent after r x e. exactly-no (checkDecode s then checkRoom s (length lent)) (Read (decodedCount s)) refl x r (e .0);
-      steps = λ s g lent after r x e.
-          exactly-no (checkWalk s g (length lent)) (cond (hasGroup s g) (Read (stepCount s g)) Finished) (left-or-done (hasGroup s g) (stepCount s g)) x r (e .0);
-      encodes = λ p mode s lent after r x e. exactly-no (checkEncodeInto p mode s (length lent)) (Wrote (length (encodedFile p mode s))) refl x r (e .0);
-      reencodes = λ p s t lent after r x e. exactly-no (checkReencodeInto p s t (length lent)) (Wrote (length t)) refl x r (e .0);
+      opens = λ s r x at e. exactly-no (checkOpen s) (Opened (headerOf s)) refl x at r e;
+      decodes = λ s lent after r x at e. exactly-no (checkDecode s then checkRoom s (length lent)) (Read (decodedCount s)) refl x at r (e .0);
+      steps = λ s g lent after r x at e.
+          exactly-no (checkWalk s g (length lent)) (cond (hasGroup s g) (Read (stepCount s g)) Finished) (left-or-done (hasGroup s g) (stepCount s g)) x at r (e .0);
+      encodes = λ p mode s lent after r x at e. exactly-no (checkEncodeInto p mode s (length lent)) (Wrote (length (encodedFile p mode s))) refl x at r (e .0);
+      reencodes = λ p s t lent after r x at e. exactly-no (checkReencodeInto p s t (length lent)) (Wrote (length t)) refl x at r (e .0);
     }
 
 -- ---- 7. ONE OUTCOME
@@ -100,6 +101,9 @@ pub record OneOutcome : Type 1 where
   pub host-decodes : (s lent : List ℕ) → One (HostDecodes s lent)
   pub host-encodes : (b : List ℕ) (p : PcmSpec) (mode : ℕ) (lent : List ℕ) → One (HostEncodes b p mode lent)
   pub host-reencodes : (b : List ℕ) (p : PcmSpec) (t lent : List ℕ) → One (HostReencodes b p t lent)
+  -- the words of what decoding and re-encoding would refuse, and where
+  pub host-decode-refuses : (s : List ℕ) (room r r′ : ℕ) → HostDecodeRefuses s room r → HostDecodeRefuses s room r′ → r ≡ r′
+  pub host-reencode-refuses : (b : List ℕ) (p : PcmSpec) (t : List ℕ) (room r r′ : ℕ) → HostReencodeRefuses b p t room r → HostReencodeRefuses b p t room r′ → r ≡ r′
   -- samples lent in either container: decode_lent, decode_group_lent
   pub decodes-lent : (s : List ℕ) (which : Container) (words : List ℤ) (bytes : List ℕ) → OneInEither (Decodes s (lentOf which words bytes)) which words bytes
   pub steps-lent : (s : List ℕ) (g : ℕ) (which : Container) (words : List ℤ) (bytes : List ℕ) → OneInEither (Steps s g (lentOf which words bytes)) which words bytes
@@ -118,6 +122,8 @@ one-outcome-each =
       host-decodes = λ s lent. equations _ _;
       host-encodes = λ b p mode lent. equations _ _;
       host-reencodes = λ b p t lent. equations _ _;
+      host-decode-refuses = λ s room r r′ p q. p ∙ sym q;
+      host-reencode-refuses = λ b p t room r r′ e q. e ∙ sym q;
       decodes-lent = λ s which words bytes. in-either _ (equations _ _) which words bytes;
       steps-lent = λ s g which words bytes. in-either _ (equations _ _) which words bytes;
     }
@@ -126,11 +132,11 @@ one-outcome-each =
 
 -- where the answer is a refusal, what is lent stays as it was
 abbrev pub Keeps : {A : Type 0} → (Answer → List A → Type 0) → List A → Type 0
-Keeps {A} P lent = (x : Refusal) (after : List A) → P (refusedBy x) after → after ≡ lent
+Keeps {A} P lent = (x : Refusal) (at : Place) (after : List A) → P (refusedBy x at) after → after ≡ lent
 
 abbrev pub KeepsInEither : (Answer → List ℤ → Type 0) → Container → List ℤ → List ℕ → Type 0
 KeepsInEither P which words bytes =
-    (x : Refusal) (w : List ℤ) (b : List ℕ) → Below 256 bytes → Below 256 b → InEither P which words bytes (refusedBy x) w b → (w ≡ words) × (b ≡ bytes)
+    (x : Refusal) (at : Place) (w : List ℤ) (b : List ℕ) → Below 256 bytes → Below 256 b → InEither P which words bytes (refusedBy x at) w b → (w ≡ words) × (b ≡ bytes)
 
 -- a host is told of a refusal by a number from 2 ^ 63 on; no slice is as long as that
 abbrev pub HostKeeps : (ℕ → List ℕ → Type 0) → List ℕ → Type 0
@@ -140,7 +146,7 @@ pub record RefusalsKeep : Type 0 where
   pub decodes : (s : List ℕ) (lent : List ℤ) → Keeps (Decodes s lent) lent
   pub steps : (s : List ℕ) (g : ℕ) (lent : List ℤ) → Keeps (Steps s g lent) lent
   -- and the walk stays where it is
-  pub advances : (s : List ℕ) (g : ℕ) (lent after : List ℤ) (x : Refusal) (next : ℕ) → Advances s g lent (refusedBy x) after next → (after ≡ lent) × (next ≡ g)
+  pub advances : (s : List ℕ) (g : ℕ) (lent after : List ℤ) (x : Refusal) (at : Place) (next : ℕ) → Advances s g lent (refusedBy x at) after next → (after ≡ lent) × (next ≡ g)
   pub encodes : (p : PcmSpec) (mode : StereoMode) (s : List ℤ) (lent : List ℕ) → Keeps (Encodes p mode s lent) lent
   pub reencodes : (p : PcmSpec) (s : List ℤ) (t lent : List ℕ) → Keeps (Reencodes p s t lent) lent
   pub host-decodes : (s lent : List ℕ) → HostKeeps (HostDecodes s lent) lent
@@ -151,21 +157,21 @@ pub record RefusalsKeep : Type 0 where
 
 decode-keeps : (s : List ℕ) (lent : List ℤ) → Keeps (Decodes s lent) lent
 unfolding decodeOf decodeInto
-decode-keeps s lent x after d = refused-keeps (checkDecode s then checkRoom s (length lent)) (Read (decodedCount s)) x (decodedOf s) lent after refl (d .0) (d .1)
+decode-keeps s lent x at after d = refused-keeps (checkDecode s then checkRoom s (length lent)) (Read (decodedCount s)) x at (decodedOf s) lent after refl (d .0) (d .1)
 
 step-keeps : (s : List ℕ) (g : ℕ) (lent : List ℤ) → Keeps (Steps s g lent) lent
 unfolding stepOf stepInto
-step-keeps s g lent x after d =
-    refused-keeps (checkWalk s g (length lent)) (cond (hasGroup s g) (Read (stepCount s g)) Finished) x (cond (hasGroup s g) (stepSamples s g) []) lent after
+step-keeps s g lent x at after d =
+    refused-keeps (checkWalk s g (length lent)) (cond (hasGroup s g) (Read (stepCount s g)) Finished) x at (cond (hasGroup s g) (stepSamples s g) []) lent after
     (left-or-done (hasGroup s g) (stepCount s g)) (d .0) (d .1)
 
 encode-keeps : (p : PcmSpec) (mode : StereoMode) (s : List ℤ) (lent : List ℕ) → Keeps (Encodes p mode s lent) lent
 unfolding encodeOf encodeInto
-encode-keeps p mode s lent x after e = refused-keeps (checkEncodeInto p mode s (length lent)) (Wrote (length (encodedFile p mode s))) x (encodedFile p mode s) lent after refl (e .0) (e .1)
+encode-keeps p mode s lent x at after e = refused-keeps (checkEncodeInto p mode s (length lent)) (Wrote (length (encodedFile p mode s))) x at (encodedFile p mode s) lent after refl (e .0) (e .1)
 
 reencode-keeps : (p : PcmSpec) (s : List ℤ) (t lent : List ℕ) → Keeps (Reencodes p s t lent) lent
 unfolding reencodeOf reencodeInto
-reencode-keeps p s t lent x after e = refused-keeps (checkReencodeInto p s t (length lent)) (Wrote (length t)) x (reencodedFile s t) lent after refl (e .0) (e .1)
+reencode-keeps p s t lent x at after e = refused-keeps (checkReencodeInto p s t (length lent)) (Wrote (length t)) x at (reencodedFile s t) lent after refl (e .0) (e .1)
 
 -- at the boundary, with the checks c, the outcome o of success and what it writes
 host-keeps : (c : Checked) (o : Outcome) (w lent : List ℕ) → (length lent < 2 ^ 63 → c ≡ Fine → result o < 2 ^ 63)
@@ -173,13 +179,22 @@ host-keeps : (c : Checked) (o : Outcome) (w lent : List ℕ) → (length lent < 
 host-keeps c o w lent few short r after l p =
     let e = p .0 in
     let x = host-refused c o (few short) (omega arith) in
-    no-keeps c (x .0) w lent after (x .1) (p .1)
+    no-keeps c (x .0) (x .1) w lent after (x .2) (p .1)
+
+-- what is written has room, so its length is below 2 ^ 63
+pub decode-short : (s : List ℕ) (room : ℕ) → room < 2 ^ 63 → (checkDecode s then checkRoom s (room / 4)) ≡ Fine → result (Read (decodedCount s)) < 2 ^ 63
+unfolding checkRoom
+decode-short s room short fine = let q = has-room (checkDecode s) (room / 4) (decodedCount s .0) OutputTooShort fine in omega arith
+
+pub reencode-short : (b : List ℕ) (p : PcmSpec) (t : List ℕ) (room : ℕ) → room < 2 ^ 63 → checkHostReencode b p t room ≡ Fine → result (Wrote (length t)) < 2 ^ 63
+unfolding checkHostReencode checkReencodeInto
+reencode-short b p t room short fine =
+    let q = has-room (checkReencode p (samplesFrom b) t) room (length t) OutputTooShort (others-fine (checkBytes b) _ fine) in omega arith
 
 host-decode-keeps : (s lent : List ℕ) → HostKeeps (HostDecodes s lent) lent
-unfolding hostDecode hostDecodeInto decodeOf checkRoom
+unfolding hostDecode hostDecodeInto decodeOf
 host-decode-keeps s lent =
-    host-keeps (checkDecode s then checkRoom s (length lent / 4)) (Read (decodedCount s)) (sampleBytes (decodedOf s)) lent
-    (λ short fine. let q = has-room (checkDecode s) (length lent / 4) (decodedCount s .0) OutputTooShort fine in omega arith)
+    host-keeps (checkDecode s then checkRoom s (length lent / 4)) (Read (decodedCount s)) (sampleBytes (decodedOf s)) lent (decode-short s (length lent))
 
 host-encode-keeps : (b : List ℕ) (p : PcmSpec) (mode : ℕ) (lent : List ℕ) → HostKeeps (HostEncodes b p mode lent) lent
 unfolding hostEncode hostEncodeInto checkHostEncode checkEncodeInto
@@ -191,20 +206,19 @@ host-encode-keeps b p mode lent =
     omega arith)
 
 host-reencode-keeps : (b : List ℕ) (p : PcmSpec) (t lent : List ℕ) → HostKeeps (HostReencodes b p t lent) lent
-unfolding hostReencode hostReencodeInto checkHostReencode checkReencodeInto
+unfolding hostReencode hostReencodeInto
 host-reencode-keeps b p t lent =
-    host-keeps (checkHostReencode b p t (length lent)) (Wrote (length t)) (reencodedFile (samplesFrom b) t) lent
-    (λ short fine. let q = has-room (checkReencode p (samplesFrom b) t) (length lent) (length t) OutputTooShort (others-fine (checkBytes b) _ fine) in omega arith)
+    host-keeps (checkHostReencode b p t (length lent)) (Wrote (length t)) (reencodedFile (samplesFrom b) t) lent (reencode-short b p t (length lent))
 
 keeps-in-either : (P : Answer → List ℤ → Type 0) (which : Container) (words : List ℤ) (bytes : List ℕ) → Keeps P (lentOf which words bytes) → KeepsInEither P which words bytes
-keeps-in-either P which words bytes keeps x w b hb hb′ p = one-outcome which w words b bytes hb′ hb (keeps x (lentOf which w b) (p .0)) (p .1)
+keeps-in-either P which words bytes keeps x at w b hb hb′ p = one-outcome which w words b bytes hb′ hb (keeps x at (lentOf which w b) (p .0)) (p .1)
 
 pub refusals-keep : RefusalsKeep
 refusals-keep =
     record {
       decodes = decode-keeps;
       steps = step-keeps;
-      advances = λ s g lent after x next d. let e = step-moves s g lent after (refusedBy x) next d in (step-keeps s g lent x after (d .0), omega arith);
+      advances = λ s g lent after x at next d. let e = step-moves s g lent after (refusedBy x at) next d in (step-keeps s g lent x at after (d .0), omega arith);
       encodes = encode-keeps;
       reencodes = reencode-keeps;
       host-decodes = host-decode-keeps;

@@ -16,6 +16,7 @@ use Rattle.format.specs.Walking.{stepSamples}
 use Rattle.format.specs.Encoding.{groupIn, encodedGroupAt, encodedFile, framesOf}
 use Rattle.format.specs.Reencoding.{reencodedGroup}
 use Rattle.format.specs.Promises.{Opens, Decodes, Steps, Encodes, Reencodes}
+use Rattle.format.specs.Places.{atGroup}
 use Rattle.format.specs.declared.refusals.Checked.{Checked}
 use Rattle.format.specs.declared.settings.PcmSpec.{PcmSpec}
 use Rattle.format.specs.declared.settings.StereoMode.{StereoMode}
@@ -24,7 +25,8 @@ use Rattle.format.specs.declared.answers.Fields.{Fields}
 use Rattle.format.specs.declared.answers.Outcome.the-variants.{Opened}
 use Rattle.format.specs.declared.answers.Answer.{Answer}
 use Rattle.laws.proofs.Parts.{part-at}
-use Rattle.laws.proofs.Checks.{first-fine, others-fine, order-fine}
+use Rattle.laws.proofs.Checks.{first-fine, others-fine}
+use Rattle.laws.proofs.Places.{located-at}
 use Rattle.laws.proofs.Opened.{opened-fields, some-channels}
 use Rattle.laws.proofs.Lengths.{group-writes, active-sum}
 use Rattle.laws.proofs.Channels.{group-starts}
@@ -64,7 +66,7 @@ module _ (s : List ℕ) (lent after : List ℤ) (n : ℕ) (d : Decodes s lent (r
   step-long g l =
       let fine = read-fine s lent after n d in
       group-writes h (formatOf s h) (groupBytes s h g) (some-channels h (opened-fields s (first-fine _ _ fine)))
-      (order-fine (λ g. checkGroup h (formatOf s h) (groupBytes s h g)) g count l (others-fine (checkOpen s) _ fine)) g
+      (located-at (λ g. checkGroup h (formatOf s h) (groupBytes s h g)) atGroup g count l (others-fine (checkOpen s) _ fine)) g
 
   starts : (g : ℕ) → g < count → 512 * h .channels * g ≡ length (joined (stepSamples s) g)
   unfolding groupsOf

@@ -18,22 +18,23 @@ use Rattle.format.specs.Decoding.{checkDecode, decodedOf}
 use Rattle.format.specs.Encoding.{encodedFile, checkEncoder, checkSamples, checkEncodeInto, encodeOf}
 use Rattle.format.specs.Reencoding.{reencodedFile, checkReencodeInto, reencodeOf}
 use Rattle.format.specs.Promises.{Opens, Decodes, Encodes, Reencodes}
+use Rattle.format.specs.declared.refusals.Place.{Place}
 use Rattle.format.specs.declared.refusals.Checked.{Checked}
 use Rattle.format.specs.declared.refusals.Checked.the-variants.{Fine}
 use Rattle.format.specs.declared.refusals.Refusal.the-variants.{ParityDiffers, WidthTooSmall}
 use Rattle.format.specs.declared.settings.PcmSpec.{PcmSpec}
 use Rattle.format.specs.declared.settings.StereoMode.{StereoMode}
 use Rattle.format.specs.declared.settings.StereoMode.the-variants.{MidSide}
-use Rattle.format.specs.declared.answers.Outcome.the-variants.{Opened, Wrote}
+use Rattle.format.specs.declared.answers.Outcome.the-variants.{Opened, Wrote, Refused}
 use Rattle.format.specs.declared.answers.Answer.{Answer}
 use Rattle.laws.proofs.Checks.{first-fine}
-use Rattle.promises.proofs.Outcomes.{Exactly, exactly-no, samples-read, decodes-to}
+use Rattle.promises.proofs.Outcomes.{Exactly, exactly-no, exactly-number, samples-read, decodes-to}
 use Rattle.promises.proofs.RoundTrip as RoundTrip
 use Rattle.promises.proofs.MidSums.{NoneLeaves}
 use Rattle.promises.proofs.Refile as Refile
 use Rattle.promises.proofs.Again.{says-same, leaves-same}
 use Rattle.promises.proofs.Files.{encode-ok, file-written, reencode-ok, new-file, template-written}
-use Rattle.promises.proofs.ParityLaws.{Some, oddFrame, parity-so, so-parity}
+use Rattle.promises.proofs.ParityLaws.{Some, oddFrame, FirstOdd, parity-so, so-parity, parity-some, some-parity}
 use Rattle.promises.proofs.Misfits.{fresh, codingAt, Misfit, misfit-so, so-misfit, misfit-new, misfit-below}
 
 -- a rate is a number of 32 bits, as its type says
@@ -61,11 +62,22 @@ there-and-back p mode s lent file n out after r rate e room d =
 pub parity-exactly : (p : PcmSpec) (s : List ℤ) (lent after : List ℕ) (r : Answer)
     → p .channels ≡ 2
     → Encodes p MidSide s lent r after
-    → Exactly (r ≡ refusedBy ParityDiffers) (((checkEncoder p then checkSamples p s) ≡ Fine) × Some (oddFrame s) (length s / 2))
+    → Exactly (r .outcome ≡ Refused ParityDiffers) (((checkEncoder p then checkSamples p s) ≡ Fine) × Some (oddFrame s) (length s / 2))
 unfolding encodeOf
 parity-exactly p s lent after r two e =
-    let q = exactly-no (checkEncodeInto p MidSide s (length lent)) (Wrote (length (encodedFile p MidSide s))) refl ParityDiffers r (e .0) in
-    (λ x. parity-so p s two (length lent) ParityDiffers refl (q .0 x), λ x. q .1 (so-parity p s two (length lent) (x .0) (x .1)))
+    let q = exactly-number (checkEncodeInto p MidSide s (length lent)) (Wrote (length (encodedFile p MidSide s))) refl ParityDiffers r (e .0) in
+    (λ x. let n = q .0 x in parity-some p s two (length lent) ParityDiffers (n .0) refl (n .1), λ x. q .1 (some-parity p s two (length lent) (x .0) (x .1)))
+
+-- and it names group g exactly when 30 to 33 pass and g is the group of the first frame whose two samples differ
+pub parity-group : (p : PcmSpec) (s : List ℤ) (lent after : List ℕ) (g : ℕ) (r : Answer)
+    → p .channels ≡ 2
+    → Encodes p MidSide s lent r after
+    → Exactly (r ≡ refusedBy ParityDiffers (record { group = g; channel = 0 })) (((checkEncoder p then checkSamples p s) ≡ Fine) × FirstOdd s g)
+unfolding encodeOf
+parity-group p s lent after g r two e =
+    let at : Place = record { group = g; channel = 0 } in
+    let q = exactly-no (checkEncodeInto p MidSide s (length lent)) (Wrote (length (encodedFile p MidSide s))) refl ParityDiffers at r (e .0) in
+    (λ x. let n = parity-so p s two (length lent) ParityDiffers at refl (q .0 x) in (n .0, n .2), λ x. q .1 (so-parity p s two (length lent) g (x .0) (x .1)))
 
 -- ---- 3. LAW ONE: the new file decodes to the samples
 
@@ -133,17 +145,18 @@ templates-decode p s t lent file n e =
 
 -- ---- 11. WHICH VALUE DID NOT FIT
 
--- re-encoding refuses 36 with the place k exactly when, in the order group, channel, place, the first value that its
--- block's width does not hold is at k, and nothing is refused before it
-pub misfit-exactly : (p : PcmSpec) (s : List ℤ) (t lent after : List ℕ) (k : ℕ) (r : Answer)
+-- re-encoding refuses 36 in a group and channel with the place k exactly when, in the order group, channel, place, the
+-- first value that its block's width does not hold is there at k, and nothing is refused before it
+pub misfit-exactly : (p : PcmSpec) (s : List ℤ) (t lent after : List ℕ) (at : Place) (k : ℕ) (r : Answer)
     → Reencodes p s t lent r after
-    → Exactly (r ≡ refusedBy (WidthTooSmall k)) (Misfit p s t k)
+    → Exactly (r ≡ refusedBy (WidthTooSmall k) at) (Misfit p s t at k)
 unfolding reencodeOf
-misfit-exactly p s t lent after k r e =
-    let q = exactly-no (checkReencodeInto p s t (length lent)) (Wrote (length t)) refl (WidthTooSmall k) r (e .0) in
-    (λ x. misfit-so p s t k (length lent) (q .0 x), λ m. q .1 (so-misfit p s t k (length lent) m))
+misfit-exactly p s t lent after at k r e =
+    let q = exactly-no (checkReencodeInto p s t (length lent)) (Wrote (length t)) refl (WidthTooSmall k) at r (e .0) in
+    (λ x. misfit-so p s t at k (length lent) (q .0 x), λ m. q .1 (so-misfit p s t at k (length lent) m))
 
 -- it is the place of a new value, that of an active sample and never the last difference; so it is below 512
-pub misfit-place : (p : PcmSpec) (s : List ℤ) (t : List ℕ) (k : ℕ) (m : Misfit p s t k)
-    → (k < fresh (codingAt p s t (m .group) (m .channel)) (active (fieldsOf t .frames) (m .group))) × (k < 512)
-misfit-place p s t k m = (misfit-new p s t k m, misfit-below p s t k m)
+pub misfit-place : (p : PcmSpec) (s : List ℤ) (t : List ℕ) (at : Place) (k : ℕ)
+    → Misfit p s t at k
+    → (k < fresh (codingAt p s t (at .group) (at .channel)) (active (fieldsOf t .frames) (at .group))) × (k < 512)
+misfit-place p s t at k m = (misfit-new p s t at k m, misfit-below p s t at k m)

@@ -14,12 +14,14 @@ use Rattle.format.specs.Lists.{tab, joined}
 use Rattle.format.specs.Numbers.{numAt}
 use Rattle.format.specs.Blocks.{isBlock, midBit, floatBit, sizeOf, samplesOf, fromBlock}
 use Rattle.format.specs.Decoding.{isFloat, checkBlock, checkGroup, coded}
+use Rattle.format.specs.Places.{atChannel}
 use Rattle.format.specs.declared.refusals.Checked.the-variants.{Fine}
 use Rattle.format.specs.declared.settings.SampleFormat.the-variants.{Pcm}
 use Rattle.format.specs.declared.answers.Fields.{Fields}
 use Rattle.laws.proofs.Tests.{and-no}
 use Rattle.laws.proofs.Parts.{around, tab-cong}
-use Rattle.laws.proofs.Checks.{pass, _and-then_, in-order}
+use Rattle.laws.proofs.Checks.{pass, _and-then_}
+use Rattle.laws.proofs.Places.{located-all}
 use Rattle.promises.proofs.BlockLaws.{Reads}
 
 -- flags 0 and 1 are not those of a float block
@@ -82,7 +84,7 @@ module _ (h : Fields) (flags : ℕ → ℕ) (X : ℕ → List ℤ) (B : ℕ → 
     pub group-fine : checkGroup h Pcm all ≡ Fine
     unfolding checkGroup
     group-fine =
-        in-order (λ c. checkBlock h Pcm c (fromBlock (h .depth) all c)) (h .channels) (λ c l. let f = front c l in ap (checkBlock h Pcm c) (f .1) ∙ block-fine c l (f .0))
+        located-all (λ c. checkBlock h Pcm c (fromBlock (h .depth) all c)) atChannel (h .channels) (λ c l. let f = front c l in ap (checkBlock h Pcm c) (f .1) ∙ block-fine c l (f .0))
         and-then pass _ _ (ap (λ (r : List ℕ). not (eqb (length r) 0)) (rest-is (h .channels) (omega arith) ∙ drop-length all))
 
   -- the first block's mark and flags are the group's, whatever follows

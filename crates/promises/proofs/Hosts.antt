@@ -4,7 +4,7 @@
 use Prim.Native.Nat.{ℕ, _+_, _*_, _/_, _%_, _^_, _≤_, _<_}
 use mathlib.Core.Path.{_≡_, refl, sym, ap, _∙_, subst}
 use mathlib.Core.Bool.{not}
-use mathlib.Core.List.{List}
+use mathlib.Core.List.{List, []}
 use native.Mathlib.Omega.{arith}
 use lib.ListN.{length, take}
 use borrow.Author.Tests.{eq-eqb}
@@ -16,8 +16,8 @@ use Rattle.format.specs.Opening.{headerOf, openOf}
 use Rattle.format.specs.Decoding.{checkDecode, decodedOf}
 use Rattle.format.specs.Encoding.{encodedFile, checkEncoder, checkSamples, checkEncode, checkEncodeInto}
 use Rattle.format.specs.Reencoding.{reencodedFile}
-use Rattle.format.specs.Boundary.{samplesFrom, isMode, modeOf, checkMode, checkBytes, result, hostOpen, checkHostEncode, hostEncode}
-use Rattle.format.specs.Promises.{HostOpens, HostDecodes, HostEncodes, HostReencodes}
+use Rattle.format.specs.Boundary.{samplesFrom, isMode, modeOf, checkMode, checkBytes, result, hostOpen, checkHostEncode, hostEncode, hostReencodeRefusal}
+use Rattle.format.specs.Promises.{HostOpens, HostDecodes, HostEncodes, HostReencodes, HostReencodeRefuses}
 use Rattle.format.specs.declared.refusals.Refusal.the-variants.{OutputTooShort}
 use Rattle.format.specs.declared.refusals.Checked.{Checked}
 use Rattle.format.specs.declared.refusals.Checked.the-variants.{Fine}
@@ -31,10 +31,10 @@ use Rattle.promises.proofs.Outcomes.{Exactly, host-decodes-to, host-num
 use Rattle.promises.proofs.MidSums.{NoneLeaves}
 use Rattle.promises.proofs.RoundTrip as RoundTrip
 use Rattle.promises.proofs.Refile as Refile
-use Rattle.promises.proofs.Again.{host-says-same, host-leaves-same}
+use Rattle.promises.proofs.Again.{host-says-same, host-leaves-same, host-word-same}
 use Rattle.promises.proofs.HostFiles.{encode-whole, host-encoded, reencode-whole, host-reencoded, host-read, bytes-count, gives-bytes}
 use Rattle.promises.proofs.Files.{encode-ok, file-written, reencode-ok, new-file, template-written}
-use Rattle.promises.proofs.ParityLaws.{Some, oddFrame, parity-so, so-parity}
+use Rattle.promises.proofs.ParityLaws.{Some, oddFrame, parity-some, some-parity}
 use Rattle.promises.proofs.Demands.{Rate32}
 
 -- ---- 1. THERE AND BACK
@@ -74,8 +74,8 @@ host-parity-exactly b p lent after r two whole short e =
     let inner : checkHostEncode b p 2 (length lent) ≡ c = pass _ _ refl and-then pass _ _ (ap not (eq-eqb (length b % 4) 0 whole)) and-then refl in
     let few : c ≡ Fine → length file < 2 ^ 63 = λ fine. let l = has-room (checkEncode p MidSide s) (length lent) (length file) OutputTooShort fine in omega arith in
     let told = e .0 ∙ ap (λ (k : Checked). result (answered k (Wrote (length file)) .outcome)) inner in (
-      λ q. let x = host-number c (Wrote (length file)) few 35 r told q in parity-so p s two (length lent) (x .0) (x .1) (x .2),
-      λ q. told ∙ ap (λ (k : Checked). result (answered k (Wrote (length file)) .outcome)) (so-parity p s two (length lent) (q .0) (q .1)),
+      λ q. let x = host-number c (Wrote (length file)) few 35 r told q in parity-some p s two (length lent) (x .0) (x .1) (x .2) (x .3),
+      λ q. told ∙ ap (λ (k : Checked). result (answered k (Wrote (length file)) .outcome)) (some-parity p s two (length lent) (q .0) (q .1) .1),
     )
 
 -- ---- 3. LAW ONE: the new file decodes to the samples
@@ -112,6 +112,19 @@ host-law-two b p t lent file n c q room after after′ r r′ e short old new =
     let ok = reencode-ok p s t lent file n i in
     let moved : HostReencodes c q (reencodedFile s t) room r′ after′ = subst (λ (f : List ℕ). HostReencodes c q f room r′ after′) (new-file p s t lent file n i) new in
     (old .0 ∙ sym (host-says-same p s t ok c q room) ∙ sym (moved .0), old .1 ∙ sym (host-leaves-same p s t ok c q room) ∙ sym (moved .1))
+
+-- and it tells what it would refuse, and where, as the old one did
+pub host-law-two-word : (b : List ℕ) (p : PcmSpec) (t lent file : List ℕ) (n : ℕ) (c : List ℕ) (q : PcmSpec) (room word word′ : ℕ)
+    → HostReencodes b p t lent n file
+    → n < 2 ^ 63
+    → HostReencodeRefuses c q t room word
+    → HostReencodeRefuses c q (take n file) room word′
+    → word ≡ word′
+host-law-two-word b p t lent file n c q room word word′ e short old new =
+    let s = samplesFrom b in
+    let i = host-reencoded b p t lent n file e short in
+    let ok = reencode-ok p s t lent file n i in
+    old ∙ sym (host-word-same p s t ok c q [] room) ∙ sym (new ∙ ap (λ (f : List ℕ). hostReencodeRefusal c q f room) (new-file p s t lent file n i))
 
 -- ---- 5. LAW THREE: a template with its own samples is itself
 

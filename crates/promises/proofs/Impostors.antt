@@ -17,6 +17,7 @@ use Rattle.format.specs.Encoding.{encodedFile, encodeOf, encodeInto}
 use Rattle.format.specs.Reencoding.{reencodeOf, reencodeInto}
 use Rattle.format.specs.Promises.{Decodes, Encodes, Reencodes}
 use Rattle.format.specs.declared.refusals.Refusal.{Refusal}
+use Rattle.format.specs.declared.refusals.Place.{Place}
 use Rattle.format.specs.declared.settings.PcmSpec.{PcmSpec}
 use Rattle.format.specs.declared.settings.StereoMode.{StereoMode}
 use Rattle.format.specs.declared.settings.StereoMode.the-variants.{Auto}
@@ -70,7 +71,7 @@ pub record Reencoder : Type 0 where
   pub meets : EachReencoding (λ p s t lent. Reencodes p s t lent (says p s t lent) (leaves p s t lent))
 
 abbrev pub Refuses : Answer → Type 0
-Refuses r = (x : Refusal) × (r ≡ refusedBy x)
+Refuses r = (x : Refusal) × (at : Place) × (r ≡ refusedBy x at)
 
 -- where the first group ends, in the samples of the file s and in the file t itself
 abbrev pub firstSamples : List ℕ → ℕ
@@ -190,7 +191,7 @@ computed =
 
 -- ---- that a call succeeds and that it refuses differ; so do these numbers
 succeeds : (r : Answer) (o : Outcome) → isRefused o ≡ false → r ≡ answeredBy o → Refuses r → ⊥
-succeeds r o success e x = never (sym (ap (λ (a : Answer). isRefused (a .outcome)) (x .1)) ∙ ap (λ (a : Answer). isRefused (a .outcome)) e ∙ success)
+succeeds r o success e x = never (sym (ap (λ (a : Answer). isRefused (a .outcome)) (x .2)) ∙ ap (λ (a : Answer). isRefused (a .outcome)) e ∙ success)
 
 differ : (m n : ℕ) → eqb m n ≡ false → m ≡ n → ⊥
 differ m n d e = never (sym (eq-eqb m n e) ∙ d)

@@ -13,10 +13,12 @@ use Rattle.format.specs.Lists.{joined, from}
 use Rattle.format.specs.Header.{isSignature, fieldsOf, groupsOf, entry, groupBytes}
 use Rattle.format.specs.Blocks.{isBlock, floatBit}
 use Rattle.format.specs.Units.{isDepth}
-use Rattle.format.specs.Refusals.{inOrder}
+use Rattle.format.specs.Refusals.{refuse, inOrder}
+use Rattle.format.specs.Places.{atGroup, inGroup}
 use Rattle.format.specs.Answers.{answeredBy, answered}
 use Rattle.format.specs.Opening.{badEntry, checkFields, checkOffsets, checkTable, checkFirst, formatOf, checkOpen, headerFor, headerOf, openOf}
 use Rattle.format.specs.Decoding.{checkGroup, groupSamples, checkDecode, decodedOf}
+use Rattle.format.specs.declared.refusals.Refusal.the-variants.{EntryBounds}
 use Rattle.format.specs.declared.refusals.Checked.{Checked}
 use Rattle.format.specs.declared.refusals.Checked.the-variants.{Fine}
 use Rattle.format.specs.declared.settings.SampleFormat.the-variants.{Pcm, Float}
@@ -25,7 +27,8 @@ use Rattle.format.specs.declared.answers.Fields.{Fields}
 use Rattle.format.specs.declared.answers.Outcome.the-variants.{Opened}
 use Rattle.laws.proofs.Tests.{and-no}
 use Rattle.laws.proofs.Parts.{around, part-at, length-mono, joined-cong, one-more}
-use Rattle.laws.proofs.Checks.{in-order, pass, _and-then_, none-below}
+use Rattle.laws.proofs.Checks.{pass, _and-then_}
+use Rattle.laws.proofs.Places.{located-all}
 use Rattle.promises.proofs.GroupCoding.{Group}
 
 -- s has the fields h, and its groups are part 0, part 1, ..
@@ -82,7 +85,7 @@ module _ {s : List ℕ} {h : Fields} {part : ℕ → List ℕ} (lay : Layout s h
       pass _ _ (ap not (eq-eqb (entry s h count) (h .size) (lay .entries count (omega arith) ∙ sym (lay .size))))
       and-then pass _ _ (no-groups count refl)
       and-then pass _ _ (and-no (not (eqb count 0)) _ (ap not (eq-eqb (entry s h 0) 0 (lay .entries 0 (omega arith)))))
-      and-then pass _ _ (none-below (badEntry s h) count entry-fine)
+      and-then located-all (λ g. refuse (badEntry s h g) EntryBounds) atGroup count (λ g l. pass _ _ (entry-fine g l))
 
   -- the first block
   starts : 1 ≤ count → (t : List ℕ) × (drop (h .start) s ≡ part 0 ++ t)
@@ -130,8 +133,8 @@ module _ {s : List ℕ} {h : Fields} {part : ℕ → List ℕ} (lay : Layout s h
   unfolding checkDecode
   decode-fine =
       open-fine and-then (
-      ap (λ (x : Fields). inOrder (λ g. checkGroup x (formatOf s x) (groupBytes s x g)) (groupsOf (x .frames))) (lay .fields)
-      ∙ in-order (λ g. checkGroup h (formatOf s h) (groupBytes s h g)) count
+      ap (λ (x : Fields). inOrder (λ g. inGroup g (checkGroup x (formatOf s x) (groupBytes s x g))) (groupsOf (x .frames))) (lay .fields)
+      ∙ located-all (λ g. checkGroup h (formatOf s h) (groupBytes s h g)) atGroup count
       (λ g l. ap₂ (λ (f : SampleFormat) (bs : List ℕ). checkGroup h f bs) format-is (lay .groups g l) ∙ ok g l .fine))
 
   -- and gives the groups' samples

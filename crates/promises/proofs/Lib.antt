@@ -4,6 +4,8 @@ pub mod Hosts
 pub mod Certain
 pub mod Contents
 pub mod Walks
+pub mod Places
+pub mod HostWords
 pub mod Impostors
 -- what law three asks of a template, and why
 pub mod MidSums

@@ -3,7 +3,7 @@
 use Prim.Native.Nat.{ℕ, _+_, _-_, _*_, _^_, _≤_, _<_, min}
 use mathlib.Core.Path.{_≡_, refl, sym, ap, _∙_, subst}
 use mathlib.Core.Bool.{false, not, _&&_}
-use mathlib.Core.List.{List, [], _++_}
+use mathlib.Core.List.{List, [], _∷_, _++_}
 use native.Mathlib.Nat.{lt-of-not-le}
 use native.Mathlib.Omega.{arith}
 use lib.ListN.{length, getD, take, drop}
@@ -12,25 +12,28 @@ use lib.IntN.{ℤ, pos}
 use lib.Signed.{mag}
 use lib.Dec.{eqb}
 use borrow.Author.Tests.{lt-ltb, le-ltb, ltb-false}
+use Rattle.format.specs.Lists.{isIn}
 use Rattle.format.specs.Header.{fieldsOf, groupsOf, groupBytes}
 use Rattle.format.specs.Packed.{widthOf, values, isBeyond, rebuilt}
 use Rattle.format.specs.Blocks.{baseOf, bitsOf, midBit, codingOf, decoded, samplesOf, fromBlock}
 use Rattle.format.specs.Units.{active}
-use Rattle.format.specs.Refusals.{_then_}
+use Rattle.format.specs.Refusals.{nowhere, _then_}
+use Rattle.format.specs.Places.{atGroup, atChannel}
 use Rattle.format.specs.Encoding.{differences, unwoven, parity, groupIn, checkSamples}
 use Rattle.format.specs.Reencoding.{newValues, valuesFor, activeIn, checkTemplateBlock, checkReencodeBlock, checkReencodeGroup}
-use Rattle.format.specs.Reencoding.{checkSame, checkBounds, checkRising, checkTemplate, checkReencoder, checkReencode, checkReencodeInto}
+use Rattle.format.specs.Reencoding.{checkTemplate, checkReencoder, checkReencode, checkReencodeInto}
 use Rattle.format.specs.declared.packed.Coding.{Coding}
 use Rattle.format.specs.declared.packed.Coding.the-variants.{Differences, Raw, Beyond}
 use Rattle.format.specs.declared.refusals.Checked.{Checked}
 use Rattle.format.specs.declared.refusals.Checked.the-variants.{Fine, No}
 use Rattle.format.specs.declared.refusals.Refusal.{Refusal}
+use Rattle.format.specs.declared.refusals.Place.{Place}
 use Rattle.format.specs.declared.refusals.Refusal.the-variants.{WidthTooSmall}
 use Rattle.format.specs.declared.settings.PcmSpec.{PcmSpec}
 use Rattle.format.specs.declared.answers.Fields.{Fields}
 use Rattle.laws.proofs.Tests.{never}
-use Rattle.laws.proofs.Checks.{pass, passed, _and-then_, first-fine, others-fine, Unsaid, unsaid, _nor_, said-after, said-before}
-use Rattle.laws.proofs.Checks.{in-order, order-fine, order-refuses, refusal-first}
+use Rattle.laws.proofs.Checks.{pass, passed, _and-then_, first-fine, others-fine, Unsaid, unsaid, said-after, said-before}
+use Rattle.laws.proofs.Located.{only-unsaid, template-says, template-block-says, first-in, in-first, reencode-block-nowhere}
 use Rattle.laws.proofs.Signs.{Holds, AllHold, values-hold}
 use Rattle.laws.proofs.Widths.{width-some}
 use Rattle.laws.proofs.Misfits.{FirstMisfit, misfit-told, tells-misfit}
@@ -85,20 +88,17 @@ module _ (depth : ℕ) (r : List ℕ) (xs : List ℤ) (k : ℕ) where
   FirstOf = FirstMisfit (widthOf coded) (valuesFor depth r xs) k
 
   itself-unsaid : Unsaid (WidthTooSmall k) (checkTemplateBlock depth r)
-  unfolding checkTemplateBlock
-  itself-unsaid =
-      let x = WidthTooSmall k in
-      unsaid x _ _ refl nor unsaid x _ _ refl nor unsaid x _ _ refl nor unsaid x _ _ refl
-      nor unsaid x _ _ refl nor unsaid x _ _ refl nor unsaid x _ _ refl
+  unfolding isIn
+  itself-unsaid = only-unsaid (1 ∷ 3 ∷ 44 ∷ 45 ∷ 4 ∷ []) _ (template-block-says depth r) (WidthTooSmall k) refl
 
   -- its own checks pass, and k is its first misfit
-  block-so : checkReencodeBlock depth r xs ≡ No (WidthTooSmall k) → (checkTemplateBlock depth r ≡ Fine) × FirstOf
+  block-so : (at : Place) → checkReencodeBlock depth r xs ≡ No (WidthTooSmall k) at → (checkTemplateBlock depth r ≡ Fine) × FirstOf
   unfolding checkReencodeBlock
-  block-so said =
-      let e = said-after (WidthTooSmall k) _ _ itself-unsaid said in
-      (e .0, misfit-told (widthOf coded) (valuesFor depth r xs) k (e .1))
+  block-so at said =
+      let e = said-after (WidthTooSmall k) at _ _ itself-unsaid said in
+      (e .0, misfit-told (widthOf coded) (valuesFor depth r xs) k (e .1 ∙ ap (No (WidthTooSmall k)) (reencode-block-nowhere depth r xs (WidthTooSmall k) at said)))
 
-  so-block : checkTemplateBlock depth r ≡ Fine → FirstOf → checkReencodeBlock depth r xs ≡ No (WidthTooSmall k)
+  so-block : checkTemplateBlock depth r ≡ Fine → FirstOf → checkReencodeBlock depth r xs ≡ No (WidthTooSmall k) nowhere
   unfolding checkReencodeBlock
   so-block fine f = fine and-then tells-misfit (widthOf coded) (valuesFor depth r xs) k f
 
@@ -146,36 +146,72 @@ module _ (p : PcmSpec) (s : List ℤ) (t : List ℕ) where
   abbrev pub packedAt : ℕ → ℕ → List ℤ
   packedAt g c = valuesFor (h .depth) (blockAt g c) (activeAt g c)
 
-  -- k is the place of the first misfit in the order group, channel, place, and nothing is refused before it
-  pub record Misfit (k : ℕ) : Type 0 where
-    pub group : ℕ
-    pub channel : ℕ
+  -- k is the place of the first misfit in the order group, channel, place: it is in the block at `at`, and nothing is
+  -- refused before it
+  pub record Misfit (at : Place) (k : ℕ) : Type 0 where
     -- 30 to 33, and the template's 1, 2 and 40 to 42 pass
     pub earlier : (checkReencoder p then checkSamples p s then checkTemplate p s t) ≡ Fine
-    pub in-file : group < groupsOf (h .frames)
-    pub groups-pass : (g : ℕ) → g < group → groupSays g ≡ Fine
+    pub in-file : at .group < groupsOf (h .frames)
+    pub groups-pass : (g : ℕ) → g < at .group → groupSays g ≡ Fine
     -- of the group 43, 34 and 35 pass
-    pub long : 12 ≤ length (old group)
-    pub stereo : (midBit (old group) && not (eqb (h .channels) 2)) ≡ false
-    pub even : (midBit (old group) && not (parity (unwoven (h .channels) (new group)))) ≡ false
-    pub in-group : channel < h .channels
-    pub channels-pass : (c : ℕ) → c < channel → blockSays group c ≡ Fine
+    pub long : 12 ≤ length (old (at .group))
+    pub stereo : (midBit (old (at .group)) && not (eqb (h .channels) 2)) ≡ false
+    pub even : (midBit (old (at .group)) && not (parity (unwoven (h .channels) (new (at .group))))) ≡ false
+    pub in-group : at .channel < h .channels
+    pub channels-pass : (c : ℕ) → c < at .channel → blockSays (at .group) c ≡ Fine
     -- of the template's block 1, 3, 44, 45, 4 and 1 pass
-    pub block-passes : checkTemplateBlock (h .depth) (blockAt group channel) ≡ Fine
+    pub block-passes : checkTemplateBlock (h .depth) (blockAt (at .group) (at .channel)) ≡ Fine
     -- the width does not hold value k, and holds all before it
-    pub first : FirstMisfit (widthOf (codingAt group channel)) (packedAt group channel) k
+    pub first : FirstMisfit (widthOf (codingAt (at .group) (at .channel))) (packedAt (at .group) (at .channel)) k
 
+  -- ---- no other check says 36
   module _ (k : ℕ) where
     abbrev x : Refusal
     x = WidthTooSmall k
 
-    -- ---- what is told is a new value's place
-    module _ (m : Misfit k) where
-      abbrev g : ℕ
-      g = m .group
+    template-unsaid : Unsaid x (checkTemplate p s t)
+    unfolding isIn
+    template-unsaid = only-unsaid (1 ∷ 2 ∷ 40 ∷ 41 ∷ 42 ∷ []) _ (template-says p s t) x refl
 
+    reencoder-unsaid : Unsaid x (checkReencoder p)
+    unfolding checkReencoder
+    reencoder-unsaid = spec-unsaid x refl _ _ p
+
+    -- group g says it, and all before pass
+    group-so : (g : ℕ) (from : Place) → (checkReencoder p then checkSamples p s then checkTemplate p s t) ≡ Fine
+        → g < groupsOf (h .frames) → ((i : ℕ) → i < g → groupSays i ≡ Fine) → groupSays g ≡ No x from → Misfit (atGroup g from) k
+    unfolding checkReencodeGroup
+    group-so g from earlier below before says =
+        let a = said-after x from _ _ (unsaid x _ _ refl) says in
+        let b = said-after x from _ _ (unsaid x _ _ refl) (a .1) in
+        let c = said-after x from _ _ (unsaid x _ _ refl) (b .1) in
+        let f = first-in (blockSays g) atChannel (h .channels) x from (said-before x from _ _ (unsaid x _ _ refl) (c .1)) in
+        let block = block-so (h .depth) (blockAt g (f .index)) (activeAt g (f .index)) k (f .from) (f .refuses) in
+        subst (λ (l : Place). Misfit (atGroup g l) k) (sym (f .moved))
+        (record {
+          earlier = earlier;
+          in-file = below;
+          groups-pass = before;
+          long = ltb-false (length (old g)) 12 (passed _ _ (a .0));
+          stereo = passed _ _ (b .0);
+          even = passed _ _ (c .0);
+          in-group = f .below;
+          channels-pass = f .before;
+          block-passes = block .0;
+          first = block .1;
+        })
+
+  module _ (at : Place) (k : ℕ) where
+    abbrev g : ℕ
+    g = at .group
+
+    abbrev c : ℕ
+    c = at .channel
+
+    -- ---- what is told is a new value's place
+    module _ (m : Misfit at k) where
       -- the block has as many active samples as the group has active frames
-      active-is : (1 ≤ h .depth) × (length (activeAt g (m .channel)) ≡ active (h .frames) g)
+      active-is : (1 ≤ h .depth) × (length (activeAt g c) ≡ active (h .frames) g)
       unfolding active
       active-is =
           let rest = others-fine _ _ (m .earlier) in
@@ -185,82 +221,52 @@ module _ (p : PcmSpec) (s : List ℤ) (t : List ℕ) where
           let w = bits-are p s t d in (
             omega (arith, ok .low),
             actives-long (h .channels) (old g) (m .stereo) (active (h .frames) g) (omega (arith, ok .some)) (new g)
-                (group-length (h .channels) (h .frames) s (all-frames p s t d (first-fine _ _ rest)) g) (m .channel) (m .in-group),
+                (group-length (h .channels) (h .frames) s (all-frames p s t d (first-fine _ _ rest)) g) c (m .in-group),
           )
 
-      pub misfit-new : k < fresh (codingAt g (m .channel)) (active (h .frames) g)
+      pub misfit-new : k < fresh (codingAt g c) (active (h .frames) g)
       unfolding active
       misfit-new =
-          subst (λ (n : ℕ). k < fresh (codingAt g (m .channel)) n) (active-is .1)
-          (block-fresh (h .depth) (blockAt g (m .channel)) (activeAt g (m .channel)) k (m .block-passes) (m .first) (active-is .0) (omega (arith, active-is .1)))
+          subst (λ (n : ℕ). k < fresh (codingAt g c) n) (active-is .1)
+          (block-fresh (h .depth) (blockAt g c) (activeAt g c) k (m .block-passes) (m .first) (active-is .0) (omega (arith, active-is .1)))
 
       pub misfit-below : k < 512
       unfolding active
-      misfit-below = omega (arith, misfit-new, fresh-most (codingAt g (m .channel)) (active (h .frames) g) (omega arith))
-
-    -- ---- no other check says 36
-    template-unsaid : Unsaid x (checkTemplate p s t)
-    unfolding checkTemplate checkSame checkBounds checkRising
-    template-unsaid =
-        unsaid x _ _ refl nor unsaid x _ _ refl
-        nor (unsaid x _ _ refl nor unsaid x _ _ refl nor unsaid x _ _ refl nor unsaid x _ _ refl)
-        nor (unsaid x _ _ refl nor unsaid x _ _ refl nor unsaid x _ _ refl nor unsaid x _ _ refl)
-        nor (unsaid x _ _ refl nor unsaid x _ _ refl nor unsaid x _ _ refl)
-
-    reencoder-unsaid : Unsaid x (checkReencoder p)
-    unfolding checkReencoder
-    reencoder-unsaid = spec-unsaid x refl _ _ p
+      misfit-below = omega (arith, misfit-new, fresh-most (codingAt g c) (active (h .frames) g) (omega arith))
 
     -- ---- 36 with the place k, and what it tells
 
     -- the group of the misfit says it
-    so-group : (m : Misfit k) → groupSays (m .group) ≡ No x
+    so-group : Misfit at k → groupSays g ≡ No (WidthTooSmall k) (record { group = 0; channel = c })
     unfolding checkReencodeGroup _then_
     so-group m =
-        let says = so-block (h .depth) (blockAt (m .group) (m .channel)) (activeAt (m .group) (m .channel)) k (m .block-passes) (m .first) in
-        let before = in-order (blockSays (m .group)) (m .channel) (m .channels-pass) in
-        let f = order-refuses (blockSays (m .group)) (h .channels) x (record { at = m .channel; below = m .in-group; before = before; refuses = says }) in
-        pass _ _ (le-ltb (length (old (m .group))) 12 (m .long))
+        let says = so-block (h .depth) (blockAt g c) (activeAt g c) k (m .block-passes) (m .first) in
+        let f = in-first (blockSays g) atChannel (h .channels) (WidthTooSmall k) (record { group = 0; channel = c })
+        (record { index = c; below = m .in-group; before = m .channels-pass; from = nowhere; refuses = says; moved = refl }) in
+        pass _ _ (le-ltb (length (old g)) 12 (m .long))
         and-then pass _ _ (m .stereo)
         and-then pass _ _ (m .even)
         and-then rw f refl
 
     module _ (room : ℕ) where
-      pub misfit-so : checkReencodeInto p s t room ≡ No x → Misfit k
-      unfolding checkReencodeInto checkReencode checkReencodeGroup
+      pub misfit-so : checkReencodeInto p s t room ≡ No (WidthTooSmall k) at → Misfit at k
+      unfolding checkReencodeInto checkReencode
       misfit-so said =
-          let a = said-before x _ _ (unsaid x _ _ refl) said in
-          let b = said-after x _ _ reencoder-unsaid a in
-          let c = said-after x _ _ (samples-unsaid x refl refl refl p s) (b .1) in
-          let d = said-after x _ _ template-unsaid (c .1) in
-          let f = refusal-first groupSays (groupsOf (h .frames)) x (d .1) in
-          let e1 = said-after x _ _ (unsaid x _ _ refl) (f .refuses) in
-          let e2 = said-after x _ _ (unsaid x _ _ refl) (e1 .1) in
-          let e3 = said-after x _ _ (unsaid x _ _ refl) (e2 .1) in
-          let q = refusal-first (blockSays (f .at)) (h .channels) x (said-before x _ _ (unsaid x _ _ refl) (e3 .1)) in
-          let block = block-so (h .depth) (blockAt (f .at) (q .at)) (activeAt (f .at) (q .at)) k (q .refuses) in
-          record {
-            group = f .at;
-            channel = q .at;
-            earlier = (b .0) and-then (c .0) and-then (d .0);
-            in-file = f .below;
-            groups-pass = λ g l. order-fine groupSays g (f .at) l (f .before);
-            long = ltb-false (length (old (f .at))) 12 (passed _ _ (e1 .0));
-            stereo = passed _ _ (e2 .0);
-            even = passed _ _ (e3 .0);
-            in-group = q .below;
-            channels-pass = λ c l. order-fine (blockSays (f .at)) c (q .at) l (q .before);
-            block-passes = block .0;
-            first = block .1;
-          }
+          let y = WidthTooSmall k in
+          let a = said-before y at _ _ (unsaid y _ _ refl) said in
+          let b = said-after y at _ _ (reencoder-unsaid k) a in
+          let d = said-after y at _ _ (samples-unsaid y refl refl refl p s) (b .1) in
+          let e = said-after y at _ _ (template-unsaid k) (d .1) in
+          let f = first-in groupSays atGroup (groupsOf (h .frames)) y at (e .1) in
+          subst (λ (l : Place). Misfit l k) (sym (f .moved)) (group-so k (f .index) (f .from) ((b .0) and-then (d .0) and-then (e .0)) (f .below) (f .before) (f .refuses))
 
-      pub so-misfit : Misfit k → checkReencodeInto p s t room ≡ No x
+      pub so-misfit : Misfit at k → checkReencodeInto p s t room ≡ No (WidthTooSmall k) at
       unfolding checkReencodeInto checkReencode _then_
       so-misfit m =
           let a = first-fine (checkReencoder p) (checkSamples p s then checkTemplate p s t) (m .earlier) in
           let rest = others-fine (checkReencoder p) (checkSamples p s then checkTemplate p s t) (m .earlier) in
           let b = first-fine (checkSamples p s) (checkTemplate p s t) rest in
-          let c = others-fine (checkSamples p s) (checkTemplate p s t) rest in
-          let before = in-order groupSays (m .group) (m .groups-pass) in
-          let f = order-refuses groupSays (groupsOf (h .frames)) x (record { at = m .group; below = m .in-file; before = before; refuses = so-group m }) in
-          rw (a, b, c, f) refl
+          let d = others-fine (checkSamples p s) (checkTemplate p s t) rest in
+          let f = in-first groupSays atGroup (groupsOf (h .frames)) (WidthTooSmall k) at
+          (record { index = g; below = m .in-file; before = m .groups-pass; from = record { group = 0; channel = c }; refuses = so-group m; moved = refl }) in
+          rw (a, b, d, f) refl

@@ -18,11 +18,13 @@ use Rattle.format.specs.Packed.{widthOf}
 use Rattle.format.specs.Blocks.{blockMark, isBlock, midBit, floatBit, codingOf, sizeOf, samplesOf, fromBlock}
 use Rattle.format.specs.MidSide.{leftRight}
 use Rattle.format.specs.Refusals.{refuse}
+use Rattle.format.specs.Places.{atChannel, inChannel}
 use Rattle.format.specs.Units.{active}
 use Rattle.format.specs.Decoding.{isFloat, checkBlock, checkGroup, coded, channelsOf, woven, groupSamples}
 use Rattle.format.specs.Encoding.{unwoven, midSide, parity}
 use Rattle.format.specs.Reencoding.{valuesFor, reencodedBlock, checkReencodeBlock, activeIn, checkReencodeGroup, reencodedGroup}
 use Rattle.format.specs.declared.refusals.Refusal.the-variants.{NotStereo, ParityDiffers, ShortGroup, TemplateBytesLeft}
+use Rattle.format.specs.declared.refusals.Checked.{Checked}
 use Rattle.format.specs.declared.refusals.Checked.the-variants.{Fine}
 use Rattle.format.specs.declared.settings.SampleFormat.the-variants.{Pcm}
 use Rattle.format.specs.declared.answers.Fields.{Fields}
@@ -30,7 +32,8 @@ use Rattle.laws.proofs.Templates as T
 use Rattle.laws.proofs.Templates.{Template}
 use Rattle.laws.proofs.Lengths.{samples-512}
 use Rattle.laws.proofs.Parts.{length-tab, getD-tab, joined-cong, from-within}
-use Rattle.laws.proofs.Checks.{pass, _and-then_, _then-same_, in-order, order-cong}
+use Rattle.laws.proofs.Checks.{pass, _and-then_, _then-same_, order-cong}
+use Rattle.laws.proofs.Places.{located-all}
 use Rattle.laws.proofs.Signs.{AllHold}
 use Rattle.laws.proofs.Each.{Each, each-tab}
 use Rattle.laws.proofs.Wrap.{Fit, zero-fits}
@@ -197,7 +200,7 @@ module _ {h : Fields} {g : ℕ} {bs : List ℕ} {s : List ℤ} (ok : Accepted h 
   unfolding checkGroup floatBit fromBlock isBlock numAt
   template-group =
       record {
-        fine = in-order (λ c. checkBlock h Pcm c (r c)) n block-accepts and-then pass _ _ (ap (λ (x : ℕ). not (eqb x 0)) none-left);
+        fine = located-all (λ c. checkBlock h Pcm c (r c)) atChannel n block-accepts and-then pass _ _ (ap (λ (x : ℕ). not (eqb x 0)) none-left);
         samples = refl;
         mark = λ t. ap (λ (x : List ℕ). same x blockMark) (take-append-le 4 bs t (omega (arith, template-long))) ∙ blocks-ok 0 (ok .some) .mark;
         pcm = λ t. ap (λ (x : List ℕ). eqb (num 256 x / 2 % 2) 1) (from-within 10 2 bs t (omega (arith, template-long))) ∙ not-float (numAt 10 2 bs) (blocks-ok 0 (ok .some) .flags);
@@ -229,8 +232,9 @@ module _ {h : Fields} {g : ℕ} {bs : List ℕ} {s : List ℤ} (ok : Accepted h 
         then-same λ a. ap (λ (b : Bool). refuse (b && not (eqb n 2)) NotStereo) flags-mid
         then-same λ a. ap (λ (b : Bool). refuse (b && not (parity (unwoven n z))) ParityDiffers) flags-mid
         then-same λ a. order-cong _ _ n
-        (λ c q. in-group (checkReencodeBlock (h .depth)) c q
-        (λ t. check-same (h .depth) (ok .low) (r c) (getD chans c []) (chan-some c q) (chan-few c q) (chan-fit c q) (blocks-ok c q) (fits-ok c q) t (getD others c []) (others-long c q)))
+        (λ c q. ap (λ (k : Checked). inChannel c k)
+        (in-group (checkReencodeBlock (h .depth)) c q
+        (λ t. check-same (h .depth) (ok .low) (r c) (getD chans c []) (chan-some c q) (chan-few c q) (chan-fit c q) (blocks-ok c q) (fits-ok c q) t (getD others c []) (others-long c q))))
         then-same λ a. ap (λ (x : ℕ). refuse (not (eqb x 0)) TemplateBytesLeft) (ap length (rest-is h flags X B reads n (omega arith) ∙ drop-length (joined B n)) ∙ sym none-left)
 
     -- and gives the same

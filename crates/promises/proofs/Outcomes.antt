@@ -16,6 +16,7 @@ use Rattle.format.specs.Answers.{answeredBy, refusedBy, answered, filled, read,
 use Rattle.format.specs.Decoding.{checkDecode, decodedOf, decodedCount, checkRoom, decodeOf, decodeInto}
 use Rattle.format.specs.declared.units.Samples.{Samples}
 use Rattle.format.specs.declared.refusals.Refusal.{Refusal}
+use Rattle.format.specs.declared.refusals.Place.{Place}
 use Rattle.format.specs.declared.refusals.Checked.{Checked}
 use Rattle.format.specs.declared.refusals.Checked.the-variants.{Fine, No}
 use Rattle.format.specs.declared.answers.Outcome.{Outcome}
@@ -48,26 +49,40 @@ module _ (c : Checked) (o x : Outcome) (success : isRefused x ≡ false) (e : an
     where
       by : (k : Checked) → c ≡ k → k ≡ Fine
       by Fine q = refl
-      by (No r) q = never (sym (ap isRefused (told (No r) q)) ∙ success)
+      by (No r at) q = never (sym (ap isRefused (told (No r at) q)) ∙ success)
 
   pub succeeds-as : x ≡ o
   succeeds-as = told Fine succeeds-fine
 
 -- ---- what is refused is what the checks refuse, and exactly that
 module _ (o : Outcome) (success : isRefused o ≡ false) (r : Refusal) where
-  refused-no : (c : Checked) → refusedBy r ≡ answered c o → c ≡ No r
-  refused-no Fine e = never (ap (λ (a : Answer). isRefused (a .outcome)) e ∙ success)
-  refused-no (No x) e = let q : Refused r ≡ Refused x = ap (λ (a : Answer). a .outcome) e in cc
+  -- by its number alone: of some place
+  outcome-no : (c : Checked) → Refused r ≡ answered c o .outcome → (at : Place) × (c ≡ No r at)
+  outcome-no Fine e = never (ap isRefused e ∙ success)
+  outcome-no (No x from) e = let q : x ≡ r = cc in (from, ap (λ (y : Refusal). No y from) q)
 
-pub exactly-no : (c : Checked) (o : Outcome) → isRefused o ≡ false → (r : Refusal) (a : Answer) → a ≡ answered c o → Exactly (a ≡ refusedBy r) (c ≡ No r)
-exactly-no c o success r a e = (λ q. refused-no o success r c (sym q ∙ e), λ q. e ∙ ap (λ (k : Checked). answered k o) q)
+  refused-no : (at : Place) (c : Checked) → refusedBy r at ≡ answered c o → c ≡ No r at
+  refused-no at c e =
+      let n = outcome-no c (ap (λ (a : Answer). a .outcome) e) in
+      let same : refusedBy r at ≡ refusedBy r (n .0) = e ∙ ap (λ (k : Checked). answered k o) (n .1) in
+      n .1 ∙ ap (λ (a : Answer). No r (record { group = a .group; channel = a .channel })) (sym same)
+
+pub exactly-no : (c : Checked) (o : Outcome) → isRefused o ≡ false → (r : Refusal) (at : Place) (a : Answer) → a ≡ answered c o → Exactly (a ≡ refusedBy r at) (c ≡ No r at)
+exactly-no c o success r at a e = (λ q. refused-no o success r at c (sym q ∙ e), λ q. e ∙ ap (λ (k : Checked). answered k o) q)
+
+pub exactly-number : (c : Checked) (o : Outcome) → isRefused o ≡ false → (r : Refusal) (a : Answer) → a ≡ answered c o
+    → Exactly (a .outcome ≡ Refused r) ((at : Place) × (c ≡ No r at))
+exactly-number c o success r a e = (
+  λ q. outcome-no o success r c (sym q ∙ ap (λ (x : Answer). x .outcome) e),
+  λ q. ap (λ (x : Answer). x .outcome) (e ∙ ap (λ (k : Checked). answered k o) (q .1)),
+)
 
 -- and then nothing changes
-pub no-keeps : {A : Type 0} (c : Checked) (r : Refusal) (w before after : List A) → c ≡ No r → after ≡ filled c w before → after ≡ before
-no-keeps {A} c r w before after e p = p ∙ ap (λ (k : Checked). filled k w before) e
+pub no-keeps : {A : Type 0} (c : Checked) (r : Refusal) (at : Place) (w before after : List A) → c ≡ No r at → after ≡ filled c w before → after ≡ before
+no-keeps {A} c r at w before after e p = p ∙ ap (λ (k : Checked). filled k w before) e
 
-pub refused-keeps : {A : Type 0} (c : Checked) (o : Outcome) (r : Refusal) (w before after : List A) → isRefused o ≡ false → refusedBy r ≡ answered c o → after ≡ filled c w before → after ≡ before
-refused-keeps {A} c o r w before after success e = no-keeps c r w before after (refused-no o success r c e)
+pub refused-keeps : {A : Type 0} (c : Checked) (o : Outcome) (r : Refusal) (at : Place) (w before after : List A) → isRefused o ≡ false → refusedBy r at ≡ answered c o → after ≡ filled c w before → after ≡ before
+refused-keeps {A} c o r at w before after success e = no-keeps c r at w before after (refused-no o success r at c e)
 
 -- what was written lies at the front
 pub written-front : {A : Type 0} (c : Checked) (n : ℕ) (w before after : List A) → c ≡ Fine → n ≡ length w → after ≡ filled c w before → take n after ≡ w
@@ -143,21 +158,21 @@ module _ (c : Checked) (o : Outcome) where
     where
       by : (k : Checked) → n ≡ result (answered k o .outcome) → n < 2 ^ 63 → k ≡ Fine
       by Fine e l = refl
-      by (No r) e l = absurd (omega arith)
+      by (No r at) e l = absurd (omega arith)
 
   pub host-length : (n : ℕ) → n ≡ result (answered c o .outcome) → n < 2 ^ 63 → n ≡ result o
   host-length n e l = e ∙ ap (λ (k : Checked). result (answered k o .outcome)) (host-fine n e l)
 
-  pub host-refused : (c ≡ Fine → result o < 2 ^ 63) → 2 ^ 63 ≤ result (answered c o .outcome) → (r : Refusal) × (c ≡ No r)
+  pub host-refused : (c ≡ Fine → result o < 2 ^ 63) → 2 ^ 63 ≤ result (answered c o .outcome) → (r : Refusal) × (at : Place) × (c ≡ No r at)
   host-refused = by c
     where
-      by : (k : Checked) → (k ≡ Fine → result o < 2 ^ 63) → 2 ^ 63 ≤ result (answered k o .outcome) → (r : Refusal) × (k ≡ No r)
+      by : (k : Checked) → (k ≡ Fine → result o < 2 ^ 63) → 2 ^ 63 ≤ result (answered k o .outcome) → (r : Refusal) × (at : Place) × (k ≡ No r at)
       by Fine few l = let q = few refl in absurd (omega arith)
-      by (No r) few l = (r, refl)
+      by (No r at) few l = (r, at, refl)
 
   -- the number says by which the checks refuse
-  pub host-number : (c ≡ Fine → result o < 2 ^ 63) → (n r : ℕ) → r ≡ result (answered c o .outcome) → r ≡ 2 ^ 63 + n → (x : Refusal) × (number x ≡ n) × (c ≡ No x)
+  pub host-number : (c ≡ Fine → result o < 2 ^ 63) → (n r : ℕ) → r ≡ result (answered c o .outcome) → r ≡ 2 ^ 63 + n → (x : Refusal) × (at : Place) × (number x ≡ n) × (c ≡ No x at)
   host-number few n r e q =
       let x = host-refused few (omega arith) in
-      let t : r ≡ 2 ^ 63 + number (x .0) = e ∙ ap (λ (k : Checked). result (answered k o .outcome)) (x .1) in
-      (x .0, omega arith, x .1)
+      let t : r ≡ 2 ^ 63 + number (x .0) = e ∙ ap (λ (k : Checked). result (answered k o .outcome)) (x .2) in
+      (x .0, x .1, omega arith, x .2)

@@ -1,19 +1,19 @@
--- MidSide refuses 35, parity differs, exactly when some frame's two samples differ in parity: frame i of group g is
--- the file's frame 512 g + i, and no other check says 35.
-use Prim.Native.Nat.{ℕ, zero, suc, _+_, _*_, _/_, _%_, _<_}
+-- MidSide refuses 35, parity differs, exactly when some frame's two samples differ in parity, and names the group of
+-- the first: frame i of group g is the file's frame 512 g + i, and no other check says 35.
+use Prim.Native.Nat.{ℕ, suc, _+_, _*_, _/_, _%_, _<_}
 use mathlib.Core.Path.{_≡_, refl, sym, ap, ap₂, _∙_, subst}
 use mathlib.Core.Bool.{Bool, true, false, not, _&&_}
 use mathlib.Core.List.{List, [], _∷_}
-use mathlib.Core.Logic.{⊎-elim}
 use native.Mathlib.Omega.{arith}
 use lib.ListN.{length, getD, drop}
 use lib.Seq.{getD-take, getD-drop}
 use lib.IntN.{ℤ, pos}
 use lib.Dec.{eqb}
 use borrow.Author.Tests.{not-true}
-use Rattle.format.specs.Lists.{from, pairwise, every, anyBelow}
+use Rattle.format.specs.Lists.{from, pairwise, every}
 use Rattle.format.specs.Header.{groupsOf}
-use Rattle.format.specs.Refusals.{number, refuse, _then_}
+use Rattle.format.specs.Refusals.{number, nowhere, refuse, _then_, inOrder}
+use Rattle.format.specs.Places.{atGroup, inGroup}
 use Rattle.format.specs.Units.{active}
 use Rattle.format.specs.Encoding.{equalParity, parity, unwoven, groupIn, checkEncoder, checkSamples, isMidSide, checkStereo, checkSize, checkEncode, checkEncodeInto}
 use Rattle.format.specs.declared.units.Frames.{Frames}
@@ -23,9 +23,12 @@ use Rattle.format.specs.declared.settings.StereoMode.the-variants.{MidSide}
 use Rattle.format.specs.declared.refusals.Checked.{Checked}
 use Rattle.format.specs.declared.refusals.Checked.the-variants.{Fine, No}
 use Rattle.format.specs.declared.refusals.Refusal.{Refusal}
+use Rattle.format.specs.declared.refusals.Place.{Place}
 use Rattle.format.specs.declared.refusals.Refusal.the-variants.{NotStereo, ParityDiffers, OutputTooShort}
-use Rattle.laws.proofs.Tests.{never, either}
-use Rattle.laws.proofs.Checks.{_and-then_, first-fine, others-fine, Unsaid, unsaid, said-after, said-before, found-below}
+use Rattle.laws.proofs.Tests.{never}
+use Rattle.laws.proofs.Checks.{pass, passed, _and-then_, first-fine, others-fine, Unsaid, unsaid, said-after, said-before}
+use Rattle.laws.proofs.Places.{located-at}
+use Rattle.laws.proofs.Located.{refused-so, first-in, in-first}
 use Rattle.laws.proofs.SampleChecks.{frames-ok, spec-unsaid, samples-unsaid}
 use Rattle.laws.proofs.Halves.{even-at}
 use Rattle.laws.proofs.Channels.{unwoven-at, unwoven-long, group-length}
@@ -35,25 +38,6 @@ pub record Some (p : ℕ → Bool) (n : ℕ) : Type 0 where
   pub at : ℕ
   pub below : at < n
   pub holds : p at ≡ true
-
-some-below : (p : ℕ → Bool) (n : ℕ) → anyBelow p n ≡ true → Some p n
-unfolding anyBelow
-some-below p zero e = never (sym e)
-some-below p (suc n) e =
-    ⊎-elim
-    (λ (q : anyBelow p n ≡ true). let s = some-below p n q in record { at = s .at; below = more (s .at) n (s .below); holds = s .holds })
-    (λ (q : p n ≡ true). record { at = n; below = omega arith; holds = q })
-    (either (anyBelow p n) (p n) e)
-  where
-    more : (a n : ℕ) → a < n → a < suc n
-    more a n l = omega arith
-
-below-some : (p : ℕ → Bool) (n : ℕ) → Some p n → anyBelow p n ≡ true
-below-some p n s = by (anyBelow p n) refl
-  where
-    by : (b : Bool) → anyBelow p n ≡ b → anyBelow p n ≡ true
-    by true e = e
-    by false e = never (sym (s .holds) ∙ found-below p (s .at) n (s .below) e)
 
 -- frame i of two channels has equal parity
 abbrev evenAt : List ℤ → List ℤ → ℕ → Bool
@@ -121,49 +105,96 @@ module _ (s : List ℤ) (frames : Frames) (l : length s ≡ 2 * frames .0) (g : 
       by false e = refl
       by true e = sym (even-at (getD chans 0 []) (getD chans 1 []) i (omega (arith, long 0 (omega arith))) (omega (arith, long 1 (omega arith))) e) ∙ frame-is i p ∙ not-true _ o
 
--- a group's parity differs exactly where a frame's does
-module _ (s : List ℤ) (frames : Frames) (l : length s ≡ 2 * frames .0) where
-  odd-frame : Some (λ g. not (parity (unwoven 2 (groupIn 2 s g)))) (groupsOf frames) → Some (oddFrame s) (frames .0)
-  unfolding active
-  odd-frame o =
-      let i = odd-in s frames l (o .at) (not-true _ (o .holds)) in
-      let b = o .below in
-      record { at = 512 * o .at + i .0; below = omega (arith, i .1); holds = i .2 }
+-- g is the group of the first frame of s whose two samples differ in parity
+pub record FirstOdd (s : List ℤ) (g : ℕ) : Type 0 where
+  pub at : ℕ
+  pub below : at < length s / 2
+  pub differs : oddFrame s at ≡ true
+  pub in-group : at / 512 ≡ g
+  pub before : (i : ℕ) → i < 512 * g → oddFrame s i ≡ false
 
-  odd-group : Some (oddFrame s) (frames .0) → Some (λ g. not (parity (unwoven 2 (groupIn 2 s g)))) (groupsOf frames)
-  unfolding active groupsOf
-  odd-group o =
-      let b = o .below in
-      let e : 512 * (o .at / 512) + o .at % 512 ≡ o .at = omega arith in
-      record {
-        at = o .at / 512;
-        below = omega arith;
-        holds = ap not (odd-so s frames l (o .at / 512) (o .at % 512) (omega arith) (ap (oddFrame s) e ∙ o .holds));
-      }
+-- that frame is one whose samples differ
+pub odd-some : (s : List ℤ) (g : ℕ) → FirstOdd s g → Some (oddFrame s) (length s / 2)
+odd-some s g f = record { at = f .at; below = f .below; holds = f .differs }
 
 -- ---- MidSide of stereo samples
 module _ (p : PcmSpec) (s : List ℤ) (two : p .channels ≡ 2) (l : length s ≡ 2 * (length s / 2)) where
-  abbrev odd : Bool
-  odd = anyBelow (λ g. not (parity (unwoven 2 (groupIn 2 s g)))) (groupsOf (record { 0 = length s / 2 }))
+  abbrev frames : Frames
+  frames = record { 0 = length s / 2 }
 
-  stereo-is : checkStereo p MidSide s ≡ refuse odd ParityDiffers
+  -- some frame of group g differs
+  abbrev odd : ℕ → Bool
+  odd g = not (parity (unwoven 2 (groupIn 2 s g)))
+
+  abbrev check : ℕ → Checked
+  check g = refuse (odd g) ParityDiffers
+
+  stereo-is : checkStereo p MidSide s ≡ inOrder (λ g. inGroup g (check g)) (groupsOf frames)
   unfolding checkStereo isMidSide refuse _then_
   stereo-is =
-      ap (λ (n : ℕ). refuse (not (eqb n 2)) NotStereo then refuse (anyBelow (λ g. not (parity (unwoven n (groupIn n s g)))) (groupsOf (record { 0 = length s / n }))) ParityDiffers) two
+      ap (λ (n : ℕ). refuse (not (eqb n 2)) NotStereo then inOrder (λ g. inGroup g (refuse (not (parity (unwoven n (groupIn n s g)))) ParityDiffers)) (groupsOf (record { 0 = length s / n }))) two
 
-  -- where it refuses, some frame's samples differ in parity
-  pub refuses-when : (x : Refusal) → checkStereo p MidSide s ≡ No x → Some (oddFrame s) (length s / 2)
-  unfolding refuse
-  refuses-when x e = odd-frame s (record { 0 = length s / 2 }) l (some-below _ _ (by odd refl (sym stereo-is ∙ e)))
+  -- frame i differs: so does its group
+  group-odd : (i : ℕ) → i < length s / 2 → oddFrame s i ≡ true → odd (i / 512) ≡ true
+  unfolding active
+  group-odd i b o =
+      let e : 512 * (i / 512) + i % 512 ≡ i = omega arith in
+      ap not (odd-so s frames l (i / 512) (i % 512) (omega arith) (ap (oddFrame s) e ∙ o))
+
+  not-both : {A : Type 0} (b : Bool) → b ≡ true → b ≡ false → A
+  not-both b t f = never (sym t ∙ f)
+
+  even-else : (b : Bool) → (b ≡ true → ⊥) → b ≡ false
+  even-else true h = absurd (h refl)
+  even-else false h = refl
+
+  -- where it refuses, it names the group of the first frame whose samples differ in parity
+  pub refuses-when : (x : Refusal) (at : Place) → checkStereo p MidSide s ≡ No x at → (at ≡ record { group = at .group; channel = 0 }) × FirstOdd s (at .group)
+  unfolding groupsOf active
+  refuses-when x at e =
+      let f = first-in check atGroup (groupsOf frames) x at (sym stereo-is ∙ e) in
+      let g = f .index in
+      let q = f .below in
+      let this = refused-so (odd g) ParityDiffers x (f .from) (f .refuses) in
+      let there : at ≡ record { group = g; channel = 0 } = f .moved ∙ ap (atGroup g) (this .2) in
+      let i = odd-in s frames l g (not-true _ (this .0)) in
+      let m = i .1 in
+      let first : FirstOdd s g =
+      record {
+        at = 512 * g + i .0;
+        below = omega arith;
+        differs = i .2;
+        in-group = omega arith;
+        before = λ j b. even-else (oddFrame s j)
+            (λ o. not-both (odd (j / 512)) (group-odd j (omega arith) o) (passed _ _ (f .before (j / 512) (omega arith))));
+      } in
+      subst (λ (y : Place). (y ≡ record { group = y .group; channel = 0 }) × FirstOdd s (y .group)) (sym there) (refl, first)
+
+  -- where g is that group, it refuses 35 and names it
+  pub when-refuses : (g : ℕ) → FirstOdd s g → checkStereo p MidSide s ≡ No ParityDiffers (record { group = g; channel = 0 })
+  unfolding groupsOf active refuse
+  when-refuses g o =
+      let b = o .below in
+      let i = o .in-group in
+      let this : odd g ≡ true = subst (λ (k : ℕ). odd k ≡ true) i (group-odd (o .at) b (o .differs)) in
+      let passes : (k : ℕ) → k < g → check k ≡ Fine =
+      λ k m. pass _ _ (even-else (odd k) (λ t. let j = odd-in s frames l k (not-true _ t) in
+      let n = j .1 in
+      not-both (oddFrame s (512 * k + j .0)) (j .2) (o .before (512 * k + j .0) (omega arith)))) in
+      stereo-is ∙ in-first check atGroup (groupsOf frames) ParityDiffers (record { group = g; channel = 0 })
+      (record { index = g; below = omega arith; before = passes; from = nowhere; refuses = ap (λ (t : Bool). refuse t ParityDiffers) this; moved = refl })
+
+  -- where some frame's samples differ, some group is the first
+  pub some-first : Some (oddFrame s) (length s / 2) → (g : ℕ) × FirstOdd s g
+  unfolding groupsOf
+  some-first o = by (checkStereo p MidSide s) refl
     where
-      by : (b : Bool) → odd ≡ b → refuse b ParityDiffers ≡ No x → odd ≡ true
-      by true q f = q
-      by false q f = cc
-
-  -- where some frame's samples do, it refuses 35
-  pub when-refuses : Some (oddFrame s) (length s / 2) → checkStereo p MidSide s ≡ No ParityDiffers
-  unfolding refuse
-  when-refuses o = stereo-is ∙ ap (λ (b : Bool). refuse b ParityDiffers) (below-some _ _ (odd-group s (record { 0 = length s / 2 }) l o))
+      by : (k : Checked) → checkStereo p MidSide s ≡ k → (g : ℕ) × FirstOdd s g
+      by (No x at) e = (at .group, refuses-when x at e .1)
+      by Fine e =
+          let b = o .below in
+          not-both (odd (o .at / 512)) (group-odd (o .at) b (o .holds))
+          (passed _ _ (located-at check atGroup (o .at / 512) (groupsOf frames) (omega arith) (sym stereo-is ∙ e)))
 
 -- ---- so does encoding: its other checks do not say 35
 module _ (x : Refusal) (e : number x ≡ 35) where
@@ -195,19 +226,30 @@ module _ (p : PcmSpec) (s : List ℤ) (two : p .channels ≡ 2) (room : ℕ) whe
   whole : checkSamples p s ≡ Fine → length s ≡ 2 * (length s / 2)
   whole ok = subst (λ (c : ℕ). length s ≡ c * (length s / c)) two (frames-ok p s ok)
 
-  pub parity-so : (x : Refusal) → number x ≡ 35 → checkEncodeInto p MidSide s room ≡ No x → (earlier ≡ Fine) × oddSome
+  pub parity-so : (x : Refusal) (at : Place) → number x ≡ 35 → checkEncodeInto p MidSide s room ≡ No x at
+      → (earlier ≡ Fine) × (at ≡ record { group = at .group; channel = 0 }) × FirstOdd s (at .group)
   unfolding checkEncodeInto checkEncode
-  parity-so x e refused =
-      let a = said-before x _ _ (room-unsaid x e _) refused in
-      let b = said-after x _ _ (encoder-unsaid x e p) a in
-      let c = said-after x _ _ (given-unsaid x e p s) (b .1) in
-      let d = said-before x _ _ (size-unsaid x e p MidSide s) (c .1) in
-      ((b .0) and-then (c .0), refuses-when p s two (whole (c .0)) x d)
+  parity-so x at e refused =
+      let a = said-before x at _ _ (room-unsaid x e _) refused in
+      let b = said-after x at _ _ (encoder-unsaid x e p) a in
+      let c = said-after x at _ _ (given-unsaid x e p s) (b .1) in
+      let d = said-before x at _ _ (size-unsaid x e p MidSide s) (c .1) in
+      let f = refuses-when p s two (whole (c .0)) x at d in
+      ((b .0) and-then (c .0), f .0, f .1)
 
-  pub so-parity : earlier ≡ Fine → oddSome → checkEncodeInto p MidSide s room ≡ No ParityDiffers
+  pub so-parity : (g : ℕ) → earlier ≡ Fine → FirstOdd s g → checkEncodeInto p MidSide s room ≡ No ParityDiffers (record { group = g; channel = 0 })
   unfolding checkEncodeInto checkEncode _then_
-  so-parity e o =
+  so-parity g e o =
       let a : checkEncoder p ≡ Fine = first-fine (checkEncoder p) (checkSamples p s) e in
       let b : checkSamples p s ≡ Fine = others-fine (checkEncoder p) (checkSamples p s) e in
-      let c : checkStereo p MidSide s ≡ No ParityDiffers = when-refuses p s two (whole b) o in
+      let c : checkStereo p MidSide s ≡ No ParityDiffers (record { group = g; channel = 0 }) = when-refuses p s two (whole b) g o in
       rw (a, b, c) refl
+
+  -- by its number alone, of whichever group
+  pub parity-some : (x : Refusal) (at : Place) → number x ≡ 35 → checkEncodeInto p MidSide s room ≡ No x at → (earlier ≡ Fine) × oddSome
+  parity-some x at e refused = let f = parity-so x at e refused in (f .0, odd-some s (at .group) (f .2))
+
+  pub some-parity : earlier ≡ Fine → oddSome → (at : Place) × (checkEncodeInto p MidSide s room ≡ No ParityDiffers at)
+  some-parity e o =
+      let f = some-first p s two (whole (others-fine (checkEncoder p) (checkSamples p s) e)) o in
+      (record { group = f .0; channel = 0 }, so-parity (f .0) e (f .1))

@@ -7,13 +7,15 @@ use native.Mathlib.Omega.{arith}
 use lib.IntN.{ℤ}
 use lib.Dec.{eqb}
 use borrow.Author.Tests.{ltb-false, eqb-true, not-false}
-use Rattle.format.specs.Lists.{anyBelow}
 use Rattle.format.specs.Header.{groupsOf}
 use Rattle.format.specs.Answers.{answeredBy}
 use Rattle.format.specs.Opening.{headerFor, openOf}
 use Rattle.format.specs.Decoding.{checkDecode, decodedOf}
 use Rattle.format.specs.Encoding.{parity, unwoven, groupIn, isMidSide, checkEncoder, checkSamples, checkStereo, encodedGroupAt, encodedFile, checkSize, checkEncode, framesOf}
 use Rattle.format.specs.declared.units.Frames.{Frames}
+use Rattle.format.specs.Refusals.{refuse}
+use Rattle.format.specs.Places.{atGroup}
+use Rattle.format.specs.declared.refusals.Refusal.the-variants.{ParityDiffers}
 use Rattle.format.specs.declared.refusals.Checked.the-variants.{Fine}
 use Rattle.format.specs.declared.settings.PcmSpec.{PcmSpec}
 use Rattle.format.specs.declared.settings.StereoMode.{StereoMode}
@@ -21,7 +23,8 @@ use Rattle.format.specs.declared.settings.StereoMode.the-variants.{MidSide}
 use Rattle.format.specs.declared.settings.SampleFormat.the-variants.{Pcm}
 use Rattle.format.specs.declared.answers.Fields.{Fields}
 use Rattle.format.specs.declared.answers.Outcome.the-variants.{Opened}
-use Rattle.laws.proofs.Checks.{first-fine, others-fine, passed, found-below}
+use Rattle.laws.proofs.Checks.{first-fine, others-fine, passed}
+use Rattle.laws.proofs.Places.{located-at}
 use Rattle.laws.proofs.Channels.{group-length, group-holds, groups-joined}
 use Rattle.promises.proofs.GroupCoding.{Group, group-codes}
 use Rattle.promises.proofs.Laid.{Layout, open-says, decode-fine, decode-gives}
@@ -68,8 +71,9 @@ module _ (p : PcmSpec) (mode : StereoMode) (s : List ℤ) (ok : checkEncode p mo
   mid-ok g l e =
       let m : isMidSide mode ≡ true = ap isMidSide e in
       let a = subst (λ (b : Bool). (b && not (eqb (p .channels) 2)) ≡ false) m (passed _ _ (first-fine _ _ stereo-ok)) in
-      let b = subst (λ (b : Bool). (b && anyBelow odd (groupsOf frames)) ≡ false) m (passed _ _ (others-fine _ _ stereo-ok)) in
-      (eqb-true (p .channels) 2 (not-false _ a), not-false _ (found-below odd g (groupsOf frames) l b))
+      let c = located-at (λ g. refuse (isMidSide mode && odd g) ParityDiffers) atGroup g (groupsOf frames) l (others-fine _ _ stereo-ok) in
+      let b = subst (λ (b : Bool). (b && odd g) ≡ false) m (passed _ ParityDiffers c) in
+      (eqb-true (p .channels) 2 (not-false _ a), not-false _ b)
 
   -- ---- the file
   module _ (rate : p .«sample_rate» < 4294967296) where

@@ -14,14 +14,16 @@ use borrow.Author.Tests.{ltb-true, le-ltb}
 use Rattle.format.specs.Lists.{joined, over}
 use Rattle.format.specs.Header.{fieldsOf, groupsOf, groupBytes}
 use Rattle.format.specs.Refusals.{refuse, _then_, inOrder}
+use Rattle.format.specs.Places.{atGroup}
 use Rattle.format.specs.Answers.{answeredBy, refusedBy, answered, filled, read}
 use Rattle.format.specs.Opening.{formatOf, checkOpen}
 use Rattle.format.specs.Units.{active}
-use Rattle.format.specs.Decoding.{checkDecode, decodedOf}
+use Rattle.format.specs.Decoding.{checkGroup, checkDecode, decodedOf}
 use Rattle.format.specs.Walking.{checkStep, stepSamples, stepCount, hasGroup, checkStepInto, checkWalk, stepOf, groupsPassed, nextOf, stepInto}
 use Rattle.format.specs.Promises.{Steps, Advances}
 use Rattle.format.specs.declared.units.Samples.{Samples}
 use Rattle.format.specs.declared.refusals.Refusal.{Refusal}
+use Rattle.format.specs.declared.refusals.Place.{Place}
 use Rattle.format.specs.declared.refusals.Refusal.the-variants.{OutputTooShort}
 use Rattle.format.specs.declared.refusals.Checked.{Checked}
 use Rattle.format.specs.declared.refusals.Checked.the-variants.{Fine, No}
@@ -31,6 +33,7 @@ use Rattle.format.specs.declared.answers.Outcome.the-variants.{Read, Finished}
 use Rattle.format.specs.declared.answers.Answer.{Answer}
 use Rattle.laws.proofs.Tests.{never}
 use Rattle.laws.proofs.Checks.{pass, first-fine, others-fine}
+use Rattle.laws.proofs.Places.{located-fine}
 use Rattle.laws.proofs.Opened.{opened-fields, some-channels}
 use Rattle.laws.proofs.Lengths.{group-writes}
 use Rattle.promises.proofs.Outcomes.{isRefused, succeeds-fine, succeeds-as, written-front}
@@ -106,7 +109,7 @@ module _ (s : List ℕ) (g : ℕ) (lent after : List ℤ) (n : ℕ) (d : Steps s
   unfolding stepSamples checkStep
   step-long =
       step-count ∙ mul-comm (active (h .frames) g) (h .channels)
-      ∙ sym (group-writes h (formatOf s h) (groupBytes s h g) (some-channels h (opened-fields s (step-opens s g lent after o refl d))) step-checked g)
+      ∙ sym (group-writes h (formatOf s h) (groupBytes s h g) (some-channels h (opened-fields s (step-opens s g lent after o refl d))) (located-fine (atGroup g) (checkGroup h (formatOf s h) (groupBytes s h g)) step-checked) g)
 
   pub step-over : after ≡ over (stepSamples s g) lent
   step-over = leaves s g lent after o refl d true left
@@ -135,7 +138,7 @@ reads-or-ends s g room = by (checkWalk s g room) (hasGroup s g)
     by : (c : Checked) (b : Bool) → let a = answered c (cond b (Read (stepCount s g)) Finished) in (a ≡ read (stepCount s g .0)) ⊎ ((n : ℕ) → a ≡ read n → ⊥)
     by Fine true = inl refl
     by Fine false = inr (ends (answeredBy Finished) refl)
-    by (No x) b = inr (ends (refusedBy x) refl)
+    by (No x at) b = inr (ends (refusedBy x at) refl)
 
 -- where none is left, the step says done and leaves all as it was
 module _ (s : List ℕ) (g : ℕ) (lent after : List ℤ) (r : Answer) (opens : checkOpen s ≡ Fine) (none : hasGroup s g ≡ false) (d : Steps s g lent r after) where
@@ -154,16 +157,16 @@ room-passes c room m x l = ap (λ (k : Checked). c then k) (pass _ x (le-ltb roo
   where
     by : (k : Checked) → (k then Fine) ≡ k
     by Fine = refl
-    by (No r) = refl
+    by (No r at) = refl
 
 -- a refusal that is not for want of room is said in any room
-pub any-room : (s : List ℕ) (g room room′ : ℕ) (x : Refusal) → (x ≡ OutputTooShort → ⊥) → checkWalk s g room ≡ No x → checkWalk s g room′ ≡ No x
+pub any-room : (s : List ℕ) (g room room′ : ℕ) (x : Refusal) (at : Place) → (x ≡ OutputTooShort → ⊥) → checkWalk s g room ≡ No x at → checkWalk s g room′ ≡ No x at
 unfolding checkWalk checkStepInto _then_ refuse
-any-room s g room room′ x other = by (checkOpen s) (hasGroup s g) (checkStep s g) (ltb room (stepCount s g .0)) (ltb room′ (stepCount s g .0))
+any-room s g room room′ x at other = by (checkOpen s) (hasGroup s g) (checkStep s g) (ltb room (stepCount s g .0)) (ltb room′ (stepCount s g .0))
   where
-    by : (o : Checked) (b : Bool) (c : Checked) (t t′ : Bool) → (o then cond b (c then refuse t OutputTooShort) Fine) ≡ No x → (o then cond b (c then refuse t′ OutputTooShort) Fine) ≡ No x
-    by (No r) b c t t′ e = e
-    by Fine true (No r) t t′ e = e
+    by : (o : Checked) (b : Bool) (c : Checked) (t t′ : Bool) → (o then cond b (c then refuse t OutputTooShort) Fine) ≡ No x at → (o then cond b (c then refuse t′ OutputTooShort) Fine) ≡ No x at
+    by (No r there) b c t t′ e = e
+    by Fine true (No r there) t t′ e = e
     by Fine true Fine true t′ e = let q : x ≡ OutputTooShort = cc in absurd (other q)
     by Fine true Fine false t′ e = let z : true ≡ false = cc in never z
     by Fine false c t t′ e = e

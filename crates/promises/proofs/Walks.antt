@@ -18,6 +18,7 @@ use Rattle.format.specs.Decoding.{checkDecode, decodedOf, decodedCount, checkRo
 use Rattle.format.specs.Walking.{checkStep, stepSamples, stepCount, hasGroup, checkStepInto, checkWalk, stepOf, groupsPassed, nextOf, stepInto}
 use Rattle.format.specs.Promises.{Opens, Decodes, Steps, Advances}
 use Rattle.format.specs.declared.refusals.Refusal.{Refusal}
+use Rattle.format.specs.declared.refusals.Place.{Place}
 use Rattle.format.specs.declared.refusals.Refusal.the-variants.{OutputTooShort}
 use Rattle.format.specs.declared.refusals.Checked.{Checked}
 use Rattle.format.specs.declared.refusals.Checked.the-variants.{Fine, No}
@@ -68,9 +69,9 @@ pub record WalkIsDecode : Type 0 where
   -- with room for each group, it says done where the whole decode reads
   pub finishes : (s : List ℕ) (lent : ℕ → List ℤ) (w : WholeWalk s lent) (out left : List ℤ) (n : ℕ) → EnoughRoom s lent → Decodes s out (read n) left → w .answer ≡ done
   -- with room for each group, and for all of them, the whole decode refuses exactly as the first refusing step
-  pub refuses : (s : List ℕ) (lent : ℕ → List ℤ) (w : WholeWalk s lent) (out left : List ℤ) (r : Answer) (x : Refusal)
+  pub refuses : (s : List ℕ) (lent : ℕ → List ℤ) (w : WholeWalk s lent) (out left : List ℤ) (r : Answer) (x : Refusal) (at : Place)
       → EnoughRoom s lent → decodedCount s .0 ≤ length out → Decodes s out r left
-      → Exactly (r ≡ refusedBy x) (w .answer ≡ refusedBy x)
+      → Exactly (r ≡ refusedBy x at) (w .answer ≡ refusedBy x at)
 
 -- it comes to its end: the steps below n read, or one of them was the last
 module _ (s : List ℕ) (lent : ℕ → List ℤ) where
@@ -190,7 +191,7 @@ module _ (s : List ℕ) (lent : ℕ → List ℤ) (w : WholeWalk s lent) where
         where
           by : (c : Checked) → checkStep s k ≡ c → inOrder (checkStep s) groups ≡ c
           by Fine e = never (sym left ∙ not-left (as-step ∙ e))
-          by (No x) e = order-refuses (checkStep s) groups x (record { at = k; below = below; before = before-fine; refuses = e })
+          by (No x at) e = order-refuses (checkStep s) groups x at (record { at = k; below = below; before = before-fine; refuses = e })
 
     same-checks : checkDecode s ≡ last-check
     unfolding checkWalk
@@ -206,11 +207,11 @@ module _ (s : List ℕ) (lent : ℕ → List ℤ) (w : WholeWalk s lent) where
         let fine : last-check ≡ Fine = sym same-checks ∙ read-fine s out left n d in
         says-done s k (lent k) (w .left) (w .answer) (first-fine (checkOpen s) _ fine) (not-left fine) (w .last .0)
 
-    refuses : (out left : List ℤ) (r : Answer) (x : Refusal) → decodedCount s .0 ≤ length out → Decodes s out r left → Exactly (r ≡ refusedBy x) (w .answer ≡ refusedBy x)
+    refuses : (out left : List ℤ) (r : Answer) (x : Refusal) (at : Place) → decodedCount s .0 ≤ length out → Decodes s out r left → Exactly (r ≡ refusedBy x at) (w .answer ≡ refusedBy x at)
     unfolding checkRoom
-    refuses out left r x l d =
-        let a = refused-exactly .decodes s out left r x d in
-        let b = refused-exactly .steps s k (lent k) (w .left) (w .answer) x (w .last .0) in
+    refuses out left r x at l d =
+        let a = refused-exactly .decodes s out left r x at d in
+        let b = refused-exactly .steps s k (lent k) (w .left) (w .answer) x at (w .last .0) in
         let e = room-passes (checkDecode s) (length out) (decodedCount s .0) OutputTooShort l ∙ same-checks in
         (λ q. b .1 (sym e ∙ a .0 q), λ q. a .1 (e ∙ b .0 q))
 
@@ -220,7 +221,7 @@ walk-is-decode =
       every = walk;
       joins = joins;
       finishes = λ s lent w out left n room. finishes s lent w room out left n;
-      refuses = λ s lent w out left r x room. refuses s lent w room out left r x;
+      refuses = λ s lent w out left r x at room. refuses s lent w room out left r x at;
     }
 
 -- ---- EACH STEP
@@ -229,13 +230,13 @@ pub record EachStep : Type 0 where
   pub gives : (s : List ℕ) (g : ℕ) (lent after : List ℤ) (n next : ℕ) → Advances s g lent (read n) after next
       → (n ≡ length (stepSamples s g)) × (after ≡ over (stepSamples s g) lent) × (next ≡ g + 1)
   -- a refused step changes nothing, and doesn't advance
-  pub stays : (s : List ℕ) (g : ℕ) (lent after : List ℤ) (x : Refusal) (next : ℕ) → Advances s g lent (refusedBy x) after next → (after ≡ lent) × (next ≡ g)
+  pub stays : (s : List ℕ) (g : ℕ) (lent after : List ℤ) (x : Refusal) (at : Place) (next : ℕ) → Advances s g lent (refusedBy x at) after next → (after ≡ lent) × (next ≡ g)
   -- asked again, it answers the same
-  pub again : (s : List ℕ) (g : ℕ) (lent after after′ : List ℤ) (x : Refusal) (r : Answer) (next next′ : ℕ)
-      → Advances s g lent (refusedBy x) after next → Advances s next after r after′ next′ → (r ≡ refusedBy x) × (after′ ≡ lent) × (next′ ≡ g)
+  pub again : (s : List ℕ) (g : ℕ) (lent after after′ : List ℤ) (x : Refusal) (at : Place) (r : Answer) (next next′ : ℕ)
+      → Advances s g lent (refusedBy x at) after next → Advances s next after r after′ next′ → (r ≡ refusedBy x at) × (after′ ≡ lent) × (next′ ≡ g)
   -- whatever it is lent then, unless it wanted room
-  pub again-anywhere : (s : List ℕ) (g : ℕ) (lent after lent′ after′ : List ℤ) (x : Refusal) (r : Answer) (next next′ : ℕ) → (x ≡ OutputTooShort → ⊥)
-      → Advances s g lent (refusedBy x) after next → Advances s next lent′ r after′ next′ → (r ≡ refusedBy x) × (after′ ≡ lent′) × (next′ ≡ g)
+  pub again-anywhere : (s : List ℕ) (g : ℕ) (lent after lent′ after′ : List ℤ) (x : Refusal) (at : Place) (r : Answer) (next next′ : ℕ) → (x ≡ OutputTooShort → ⊥)
+      → Advances s g lent (refusedBy x at) after next → Advances s next lent′ r after′ next′ → (r ≡ refusedBy x at) × (after′ ≡ lent′) × (next′ ≡ g)
   -- done changes nothing either, and is said for ever
   pub done-again : (s : List ℕ) (g : ℕ) (lent after lent′ after′ : List ℤ) (r : Answer) (next next′ : ℕ)
       → Advances s g lent done after next → Advances s next lent′ r after′ next′ → (after ≡ lent) × (next ≡ g) × (r ≡ done) × (after′ ≡ lent′) × (next′ ≡ g)
@@ -243,15 +244,15 @@ pub record EachStep : Type 0 where
   pub done-exactly : (s : List ℕ) (h : Header) (g : ℕ) (lent after : List ℤ) (r : Answer) (next : ℕ)
       → Opens s (answeredBy (Opened h)) → Advances s g lent r after next → Exactly (r ≡ done) (h .groups ≤ g)
   -- on bytes that don't open every step refuses as opening does, also past the end
-  pub unopened : (s : List ℕ) (g : ℕ) (lent after : List ℤ) (x : Refusal) (r : Answer) (next : ℕ)
-      → Opens s (refusedBy x) → Advances s g lent r after next → (r ≡ refusedBy x) × (after ≡ lent) × (next ≡ g)
+  pub unopened : (s : List ℕ) (g : ℕ) (lent after : List ℤ) (x : Refusal) (at : Place) (r : Answer) (next : ℕ)
+      → Opens s (refusedBy x at) → Advances s g lent r after next → (r ≡ refusedBy x at) × (after ≡ lent) × (next ≡ g)
 
 -- what a step does whose checks refuse
-no-step : (s : List ℕ) (g : ℕ) (lent after : List ℤ) (x : Refusal) (r : Answer) (next : ℕ)
-    → checkWalk s g (length lent) ≡ No x → Advances s g lent r after next → (r ≡ refusedBy x) × (after ≡ lent) × (next ≡ g)
-no-step s g lent after x r next e d =
-    let q = refused-exactly .steps s g lent after r x (d .0) .1 e in
-    let k = refusals-keep .advances s g lent after x next (rw q at d) in
+no-step : (s : List ℕ) (g : ℕ) (lent after : List ℤ) (x : Refusal) (at : Place) (r : Answer) (next : ℕ)
+    → checkWalk s g (length lent) ≡ No x at → Advances s g lent r after next → (r ≡ refusedBy x at) × (after ≡ lent) × (next ≡ g)
+no-step s g lent after x at r next e d =
+    let q = refused-exactly .steps s g lent after r x at (d .0) .1 e in
+    let k = refusals-keep .advances s g lent after x at next (rw q at d) in
     (q, k .0, k .1)
 
 -- and one where no group is left
@@ -280,21 +281,21 @@ module _ (s : List ℕ) (h : Header) (e : Opens s (answeredBy (Opened h))) where
   left-none g = (λ q. omega (arith, groups-there, ltb-false g (groupsOf (fieldsOf s .frames)) q), λ l. le-ltb g (groupsOf (fieldsOf s .frames)) (omega (arith, groups-there)))
 
 -- and that don't
-unopened-refuses : (s : List ℕ) (g room : ℕ) (x : Refusal) → Opens s (refusedBy x) → checkWalk s g room ≡ No x
+unopened-refuses : (s : List ℕ) (g room : ℕ) (x : Refusal) (at : Place) → Opens s (refusedBy x at) → checkWalk s g room ≡ No x at
 unfolding checkWalk _then_
-unopened-refuses s g room x e = ap (λ (o : Checked). o then cond (hasGroup s g) (checkStepInto s g room) Fine) (refused-exactly .opens s (refusedBy x) x e .0 refl)
+unopened-refuses s g room x at e = ap (λ (o : Checked). o then cond (hasGroup s g) (checkStepInto s g room) Fine) (refused-exactly .opens s (refusedBy x at) x at e .0 refl)
 
 pub each-step : EachStep
 each-step =
     record {
       gives = λ s g lent after n next d. (step-long s g lent after n (d .0), step-over s g lent after n (d .0), step-moves s g lent after (read n) next d);
       stays = refusals-keep .advances;
-      again = λ s g lent after after′ x r next next′ d d′.
-          let k = refusals-keep .advances s g lent after x next d in
-          no-step s g lent after′ x r next′ (refused-exactly .steps s g lent after (refusedBy x) x (d .0) .0 refl) (rw (k .0, k .1) at d′);
-      again-anywhere = λ s g lent after lent′ after′ x r next next′ other d d′.
-          let k = refusals-keep .advances s g lent after x next d in
-          no-step s g lent′ after′ x r next′ (any-room s g (length lent) (length lent′) x other (refused-exactly .steps s g lent after (refusedBy x) x (d .0) .0 refl)) (rw (k .1) at d′);
+      again = λ s g lent after after′ x at r next next′ d d′.
+          let k = refusals-keep .advances s g lent after x at next d in
+          no-step s g lent after′ x at r next′ (refused-exactly .steps s g lent after (refusedBy x at) x at (d .0) .0 refl) (rw (k .0, k .1) at d′);
+      again-anywhere = λ s g lent after lent′ after′ x at r next next′ other d d′.
+          let k = refusals-keep .advances s g lent after x at next d in
+          no-step s g lent′ after′ x at r next′ (any-room s g (length lent) (length lent′) x at other (refused-exactly .steps s g lent after (refusedBy x at) x at (d .0) .0 refl)) (rw (k .1) at d′);
       done-again = λ s g lent after lent′ after′ r next next′ d d′.
           let opens = step-opens s g lent after Finished refl (d .0) in
           let none = step-done s g lent after (d .0) in
@@ -305,5 +306,5 @@ each-step =
         λ q. left-none s h e g .0 (step-done s g lent after (rw q at (d .0))),
         λ l. done-step s g lent after r next (opens-fine s h e) (left-none s h e g .1 l) d .0,
       );
-      unopened = λ s g lent after x r next e. no-step s g lent after x r next (unopened-refuses s g (length lent) x e);
+      unopened = λ s g lent after x at r next e. no-step s g lent after x at r next (unopened-refuses s g (length lent) x at e);
     }

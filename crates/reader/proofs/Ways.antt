@@ -4,52 +4,92 @@ use mathlib.Core.Path.{_≡_, refl, sym, ap, _∙_}
 use mathlib.Core.List.{List}
 use native.Mathlib.Omega.{arith}
 use lib.ListN.{length}
+use lib.IntN.{ℤ}
+use borrow.Author.Tests.{lt-ltb, le-ltb}
+use Rattle.format.specs.Lists.{over}
 use Rattle.format.specs.Header.{fieldsOf, groupsOf, groupBytes}
-use Rattle.format.specs.Refusals.{inOrder, _then_}
-use Rattle.format.specs.Answers.{answeredBy}
+use Rattle.format.specs.Refusals.{nowhere, refuse, _then_, inOrder}
+use Rattle.format.specs.Places.{inGroup}
+use Rattle.format.specs.Answers.{answeredBy, refusedBy}
 use Rattle.format.specs.Opening.{formatOf, checkOpen}
-use Rattle.format.specs.Decoding.{checkGroup, checkDecode, decodedCount}
+use Rattle.format.specs.Decoding.{checkGroup, checkDecode, checkRoom, decodedOf, decodedCount, decodeOf, decodeInto}
 use Rattle.format.specs.Units.{samplesIn}
+use Rattle.format.specs.declared.refusals.Refusal.{Refusal}
+use Rattle.format.specs.declared.refusals.Refusal.the-variants.{OutputTooShort}
+use Rattle.format.specs.declared.refusals.Place.{Place}
 use Rattle.format.specs.declared.refusals.Checked.{Checked}
-use Rattle.format.specs.declared.refusals.Checked.the-variants.{Fine}
+use Rattle.format.specs.declared.refusals.Checked.the-variants.{Fine, No}
 use Rattle.format.specs.declared.settings.SampleFormat.{SampleFormat}
 use Rattle.format.specs.declared.units.Samples.{Samples}
 use Rattle.format.specs.declared.answers.Fields.{Fields}
 use Rattle.format.specs.declared.answers.Answer.{Answer}
 use Rattle.format.specs.declared.answers.Outcome.the-variants.{Read}
-use Rattle.laws.proofs.Checks.{first-fine}
+use Rattle.laws.proofs.Checks.{first-fine, has-room}
+use Rattle.laws.proofs.Chain.{stops-at, room-short, room-enough}
 use Rattle.laws.proofs.Opened.{opened-long}
 
--- ---- the checks
-pub check-rest :
-    (s : List ℕ) (a : Checked) → a ≡ checkOpen s → a ≡ Fine
-    → (h : Fields) (f : SampleFormat) (k : Checked) → h ≡ fieldsOf s → f ≡ formatOf s h
-    → k ≡ inOrder (λ g. checkGroup h f (groupBytes s h g)) (groupsOf (h .frames)) → k ≡ checkDecode s
-unfolding checkDecode _then_
-check-rest s a says fine h f k p q e = rw (← says, fine, ← p, ← q) e
+-- how many samples that is, by the header
+count-is : (s : List ℕ) (h : Fields) → h ≡ fieldsOf s → (n : Samples) → n ≡ samplesIn (h .frames) (h .channels) → n ≡ decodedCount s
+count-is s h reads n counts = counts ∙ rw reads refl
 
--- ---- decoding
-pub room-for-all : (frames channels : ℕ) (n : Samples) (c room : ℕ) → n ≡ samplesIn (record { 0 = frames }) channels → c ≡ room → n .0 ≤ c → frames * channels ≤ room
-room-for-all frames channels n c room counts lent l = omega (arith, ap (λ (x : Samples). x .0) counts)
+-- ---- the checks: a is what opening says
+module _ (s : List ℕ) (room : ℕ) (a : Checked) (says : a ≡ checkOpen s) where
+  pub open-refused : (r : Refusal) (at : Place) → a ≡ No r at → No r at ≡ (checkDecode s then checkRoom s room)
+  unfolding checkDecode _then_
+  open-refused r at e = rw (← says, e)
 
-module _ (s : List ℕ) (k : Checked) (says : k ≡ checkDecode s) (fine : k ≡ Fine) where
-  pub decode-opens : checkOpen s ≡ Fine
-  unfolding checkDecode
-  decode-opens = first-fine _ _ (sym says ∙ fine)
+  -- k what the groups say
+  module _ (fine : a ≡ Fine) (h : Fields) (reads : h ≡ fieldsOf s) (f : SampleFormat) (format : f ≡ formatOf s h)
+      (k : Checked) (checked : k ≡ inOrder (λ g. inGroup g (checkGroup h f (groupBytes s h g))) (groupsOf (h .frames))) where
+    all-say : k ≡ checkDecode s
+    unfolding checkDecode _then_
+    all-say = rw (← says, fine, ← reads, ← format) checked
 
-  pub decode-fields : 32 ≤ length s
-  decode-fields = omega (arith, opened-long s decode-opens)
+    pub groups-refused : (r : Refusal) (at : Place) → k ≡ No r at → No r at ≡ (checkDecode s then checkRoom s room)
+    groups-refused r at e = stops-at k (checkDecode s) all-say _ r at e
 
--- n is how many samples there are, c the room
-module _ (s : List ℕ) (h : Fields) (reads : h ≡ fieldsOf s) (n : Samples) (counts : n ≡ samplesIn (h .frames) (h .channels)) where
-  in-all : n ≡ decodedCount s
-  in-all = counts ∙ rw reads refl
+    module _ (passes : k ≡ Fine) (n : Samples) (counts : n ≡ samplesIn (h .frames) (h .channels)) where
+      many : n .0 ≡ decodedCount s .0
+      many = ap (λ (x : Samples). x .0) (count-is s h reads n counts)
 
-  pub is-short : (c room : ℕ) → c ≡ room → c < n .0 → room < decodedCount s .0
-  is-short c room lent l = omega (arith, ap (λ (x : Samples). x .0) in-all)
+      pub decode-short : room < n .0 → No OutputTooShort nowhere ≡ (checkDecode s then checkRoom s room)
+      unfolding checkRoom
+      decode-short l = sym (room-short (checkDecode s) (sym all-say ∙ passes) room (decodedCount s .0) OutputTooShort (omega (arith, many)))
 
-  pub has-room : (c room : ℕ) → c ≡ room → n .0 ≤ c → decodedCount s .0 ≤ room
-  has-room c room lent l = omega (arith, ap (λ (x : Samples). x .0) in-all)
+      pub decode-passes : n .0 ≤ room → Fine ≡ (checkDecode s then checkRoom s room)
+      unfolding checkRoom
+      decode-passes l = sym (room-enough (checkDecode s) (sym all-say ∙ passes) room (decodedCount s .0) OutputTooShort (omega (arith, many)))
 
-  pub reads-all : (a : Answer) → a ≡ answeredBy (Read n) → a ≡ answeredBy (Read (decodedCount s))
-  reads-all a e = e ∙ ap (λ (x : Samples). answeredBy (Read x)) in-all
+-- ---- and the answer: k is what they say, c the room
+module _ (s : List ℕ) (c : ℕ) (k : Checked) (says : k ≡ (checkDecode s then checkRoom s c)) where
+  pub decode-refused : (room : ℕ) → c ≡ room → (r : Refusal) (at : Place) → k ≡ No r at → (x : Answer) → x ≡ refusedBy r at → x ≡ decodeOf s room
+  unfolding decodeOf
+  decode-refused room lent r at e x t = rw (← lent, ← says, e) t
+
+  pub decode-keeps : (out : List ℤ) → c ≡ length out → (r : Refusal) (at : Place) → k ≡ No r at → out ≡ decodeInto s out
+  unfolding decodeInto
+  decode-keeps out lent r at e = rw (← lent, ← says, e)
+
+  module _ (fine : k ≡ Fine) where
+    pub decode-fine : checkDecode s ≡ Fine
+    decode-fine = first-fine _ _ (sym says ∙ fine)
+
+    pub decode-opens : checkOpen s ≡ Fine
+    unfolding checkDecode
+    decode-opens = first-fine _ _ decode-fine
+
+    pub decode-fields : 32 ≤ length s
+    decode-fields = omega (arith, opened-long s decode-opens)
+
+    pub room-for-all : (h : Fields) → h ≡ fieldsOf s → (room : ℕ) → c ≡ room → h .frames .0 * h .channels ≤ room
+    unfolding checkRoom
+    room-for-all h reads room lent = rw reads (omega (arith, has-room (checkDecode s) c (decodedCount s .0) OutputTooShort (sym says ∙ fine)))
+
+    pub reads-all : (room : ℕ) → c ≡ room → (h : Fields) → h ≡ fieldsOf s → (n : Samples) → n ≡ samplesIn (h .frames) (h .channels)
+        → (x : Answer) → x ≡ answeredBy (Read n) → x ≡ decodeOf s room
+    unfolding decodeOf
+    reads-all room lent h reads n counts x t = rw (← lent, ← says, fine) (t ∙ ap (λ (m : Samples). answeredBy (Read m)) (count-is s h reads n counts))
+
+    pub writes-all : (out after : List ℤ) → c ≡ length out → after ≡ over (decodedOf s) out → after ≡ decodeInto s out
+    unfolding decodeInto
+    writes-all out after lent t = rw (← lent, ← says, fine) t

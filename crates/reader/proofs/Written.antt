@@ -10,13 +10,15 @@ use lib.ListN.{length, take, drop, length-append}
 use lib.Seq.{take-append-seam, drop-append-add, drop-drop}
 use Rattle.format.specs.Lists.{joined, over}
 use Rattle.format.specs.Header.{fieldsOf, groupsOf, entry, groupBytes}
+use Rattle.format.specs.Places.{atGroup}
 use Rattle.format.specs.Opening.{formatOf, checkOpen}
 use Rattle.format.specs.Units.{active}
 use Rattle.format.specs.Decoding.{checkGroup, channelsOf, woven, groupSamples, checkDecode, decodedOf}
 use Rattle.format.specs.declared.refusals.Checked.the-variants.{Fine}
 use Rattle.format.specs.declared.settings.SampleFormat.{SampleFormat}
 use Rattle.format.specs.declared.answers.Fields.{Fields}
-use Rattle.laws.proofs.Checks.{first-fine, others-fine, order-fine}
+use Rattle.laws.proofs.Checks.{first-fine, others-fine}
+use Rattle.laws.proofs.Places.{located-at}
 use Rattle.laws.proofs.Over.{length-over}
 use Rattle.laws.proofs.Lengths.{group-writes, active-sum}
 use Rattle.lent_samples.specs.Lent.{placed, wovenFrom}
@@ -45,7 +47,7 @@ module _ (s : List ℕ) (h : Fields) (f : SampleFormat) (fine : checkDecode s �
   unfolding checkDecode
   group-fine g l =
       let all = others-fine (checkOpen s) _ fine in
-      order-fine (λ g. checkGroup h f (groupBytes s h g)) g (groupsOf (h .frames)) l (rw (says, reads) all)
+      located-at (λ g. checkGroup h f (groupBytes s h g)) atGroup g (groupsOf (h .frames)) l (rw (says, reads) all)
 
   part-length : (g : ℕ) → g < groupsOf (h .frames) → length (part s h f g) ≡ h .channels * active (h .frames) g
   part-length g l = group-writes h f (groupBytes s h g) (channels-some s h opens reads) (group-fine g l) g

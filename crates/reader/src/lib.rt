@@ -2,12 +2,11 @@
 mod checking;
 mod putting;
 
-use crate::checking::check_decode;
 use crate::putting::put_groups;
+pub use checking::check_decode;
 use format::Answer;
 use format::Checked;
 use format::Outcome;
-use format::Refusal;
 use lent_samples::Container;
 ghost use mathlib.Core.Path.{_≡_};
 ghost use Rattle.format.specs.Promises.{Decodes};
@@ -21,17 +20,13 @@ pub fn decode_lent(which: Container, file: &[u8], words: &mut [i32], bytes: &mut
     ensures keeps { λ _. ⌜ (let rest = restOf which (now (words .entry)) (now (bytes .entry)) in
         restOf which (now (words .exit)) (now (bytes .exit)) ≡ rest) ⌝ }
 {
-    if let Checked::No(r) = check_decode(file) {
-        return Answer::refused(r);
+    if let Checked::No(r, place) = check_decode(file, lent_samples::count(which, words, bytes)) {
+        return Answer::refused(r, place);
     }
     let h = header::read_fields(file);
-    let frames = h.frames;
-    let samples = frames.samples(h.channels);
-    if lent_samples::count(which, words, bytes).0 < samples.0 {
-        return Answer::refused(Refusal::OutputTooShort);
-    }
     put_groups(which, words, bytes, file, h, opening::format_of(file, h));
-    Answer::of(Outcome::Read(samples))
+    let frames = h.frames;
+    Answer::of(Outcome::Read(frames.samples(h.channels)))
 }
 
 // The same into numbers.

@@ -17,13 +17,14 @@ use Rattle.format.specs.Lists.{from, over}
 use Rattle.format.specs.Numbers.{numAt, le, codeOf}
 use Rattle.format.specs.Packed.{coding, widthOf, isBeyond, packing}
 use Rattle.format.specs.Blocks.{isBlock, bitsOf, codingOf, sizeOf}
-use Rattle.format.specs.Refusals.{refuse, _then_}
+use Rattle.format.specs.Refusals.{nowhere, refuse, _then_}
 use Rattle.format.specs.Answers.{filled}
 use Rattle.format.specs.Fit.{checkFit}
 use Rattle.format.specs.Encoding.{firstValue}
 use Rattle.format.specs.Reencoding.{valuesFor, baseFor, reencodedBlock, checkTemplateBlock, checkReencodeBlock}
 use Rattle.format.specs.declared.packed.Coding.{Coding}
 use Rattle.format.specs.declared.packed.Coding.the-variants.{Differences, Raw, Beyond}
+use Rattle.format.specs.declared.refusals.Place.{Place}
 use Rattle.format.specs.declared.refusals.Checked.{Checked}
 use Rattle.format.specs.declared.refusals.Checked.the-variants.{Fine, No}
 use Rattle.format.specs.declared.refusals.Refusal.{Refusal}
@@ -43,9 +44,9 @@ use Rattle.block.proofs.Headers.{bits-are, coding-is}
 
 module _ (depth : ℕ) (r : List ℕ) (xs : List ℤ) where
   -- what the block's own checks refuse
-  pub itself-refused : (x : Refusal) → No x ≡ checkTemplateBlock depth r → No x ≡ checkReencodeBlock depth r xs
+  pub itself-refused : (x : Refusal) (at : Place) → No x at ≡ checkTemplateBlock depth r → No x at ≡ checkReencodeBlock depth r xs
   unfolding checkReencodeBlock
-  itself-refused x e = stops-at (checkTemplateBlock depth r) _ refl _ x (sym e)
+  itself-refused x at e = stops-at (checkTemplateBlock depth r) _ refl _ x at (sym e)
 
   -- a header with the mark, and its bits word
   module _ (long : 16 ≤ length r) (m : Bool) (mark : m ≡ isBlock r) (marked : m ≡ true) (w : ℕ) (word : w ≡ numAt 8 2 r) where
@@ -55,7 +56,7 @@ module _ (depth : ℕ) (r : List ℕ) (xs : List ℤ) where
       unfolding blockHeader
       flags-are = sym (ap (λ (x : BlockHeader). x .flags) header)
 
-      pub other-flags : 1 < b .flags → No TemplateFlags ≡ checkReencodeBlock depth r xs
+      pub other-flags : 1 < b .flags → No TemplateFlags nowhere ≡ checkReencodeBlock depth r xs
       unfolding checkReencodeBlock checkTemplateBlock refuse _then_
       other-flags l = rw (le-ltb (length r) 16 long, ← mark, marked, ← word, ne-eqb w 0 not0, ne-eqb w 1 not1, flags-are, lt-ltb 1 (b .flags) l)
 
@@ -67,12 +68,12 @@ module _ (depth : ℕ) (r : List ℕ) (xs : List ℤ) where
         others =
             rw (le-ltb (length r) 16 long, ← mark, marked, ← word, ne-eqb w 0 not0, ne-eqb w 1 not1, flags-are, le-ltb 1 (b .flags) known-flags, coding-is depth r b header fits k coded)
 
-        pub bits-beyond : k ≡ Beyond → No (BitsWord (toZ w16 (ofZ w16 (b .bits)))) ≡ checkReencodeBlock depth r xs
+        pub bits-beyond : k ≡ Beyond → No (BitsWord (toZ w16 (ofZ w16 (b .bits)))) nowhere ≡ checkReencodeBlock depth r xs
         unfolding refuse _then_ isBeyond
         bits-beyond e = rw (← others, e, bits-are depth r b header fits)
 
         module _ (known : isBeyond k ≡ false) (n : ℕ) (size : n ≡ sizeOf depth r) where
-          pub no-values : length r < n → No TooShort ≡ checkReencodeBlock depth r xs
+          pub no-values : length r < n → No TooShort nowhere ≡ checkReencodeBlock depth r xs
           unfolding refuse _then_
           no-values l = rw (← others, known, ← size, lt-ltb (length r) n l)
 

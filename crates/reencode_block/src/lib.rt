@@ -3,6 +3,7 @@ use block::BlockHeader;
 use format::Checked;
 use format::Coding;
 use format::Depth;
+use format::NOWHERE;
 use format::Refusal;
 use le_bytes::copy;
 use le_bytes::put_u32_le;
@@ -73,28 +74,28 @@ pub fn check_reencode_block(r: &[u8], depth: u16, xs: [i32; 512], n: usize) -> C
     ensures { λ k. ⌜ k ≡ checkReencodeBlock depth (now (r .entry)) (take n xs) ⌝ }
 {
     if r.len() < Depth::BLOCK_HEADER_SIZE {
-        return Checked::No(Refusal::TooShort);
+        return Checked::No(Refusal::TooShort, NOWHERE);
     }
     if block::is_block(r) {} else {
-        return Checked::No(Refusal::BlockSignature);
+        return Checked::No(Refusal::BlockSignature, NOWHERE);
     }
     let word = read_u16_le(r, 8);
     if word == 0 {
-        return Checked::No(Refusal::TemplateBits);
+        return Checked::No(Refusal::TemplateBits, NOWHERE);
     }
     if word == 1 {
-        return Checked::No(Refusal::TemplateBits);
+        return Checked::No(Refusal::TemplateBits, NOWHERE);
     }
     let b = BlockHeader::read(r);
     if 1 < b.flags {
-        return Checked::No(Refusal::TemplateFlags);
+        return Checked::No(Refusal::TemplateFlags, NOWHERE);
     }
     let coding = block::coding(depth, b.bits);
     if let Coding::Beyond = coding {
-        return Checked::No(Refusal::BitsWord(b.bits));
+        return Checked::No(Refusal::BitsWord(b.bits), NOWHERE);
     }
     if r.len() < block::size_of(r, depth) {
-        return Checked::No(Refusal::TooShort);
+        return Checked::No(Refusal::TooShort, NOWHERE);
     }
     packing::check_fit(values_for(r, depth, xs, n), block::width(coding))
 }

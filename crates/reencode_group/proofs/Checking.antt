@@ -9,13 +9,14 @@ use lib.Dec.{eqb}
 use borrow.Author.Tests.{lt-ltb, le-ltb, eq-eqb, ne-eqb}
 use Rattle.format.specs.Blocks.{midBit, fromBlock}
 use Rattle.format.specs.Encoding.{unwoven, midSide, parity}
-use Rattle.format.specs.Refusals.{refuse, _then_}
+use Rattle.format.specs.Refusals.{nowhere, refuse, _then_}
+use Rattle.format.specs.Places.{inChannel}
 use Rattle.format.specs.Reencoding.{checkReencodeBlock, activeIn, checkReencodeGroup}
 use Rattle.format.specs.declared.refusals.Refusal.the-variants.{NotStereo, ParityDiffers, ShortGroup, TemplateBytesLeft}
 use Rattle.format.specs.declared.refusals.Checked.{Checked}
 use Rattle.format.specs.declared.refusals.Checked.the-variants.{No}
 use Rattle.lent_samples.specs.Lent.{framesFrom}
-use Rattle.group.proofs.Checking.{blocksThen}
+use Rattle.group.proofs.Checking.{eachIn, blocksThen}
 use Rattle.laws.proofs.Checks.{order-cong}
 use Rattle.reencode_group.proofs.Apart.{Apart}
 use Rattle.reencode_group.proofs.Active.{parity-apart, active-plain, active-both}
@@ -31,11 +32,11 @@ pub first-each : (depth channels n : ℕ) (bs : List ℕ) (a chans : List (List 
     → blocksThen depth (firstOf depth n a) bs channels TemplateBytesLeft ≡ blocksThen depth (eachOf depth chans) bs channels TemplateBytesLeft
 first-each depth channels n bs a chans same =
     ap (λ (k : Checked). k then refuse (not (eqb (length (fromBlock depth bs channels)) 0)) TemplateBytesLeft)
-    (order-cong (λ c. firstOf depth n a c (fromBlock depth bs c)) (λ c. eachOf depth chans c (fromBlock depth bs c)) channels
-    (λ c h. ap (checkReencodeBlock depth (fromBlock depth bs c)) (same c h)))
+    (order-cong (eachIn depth (firstOf depth n a) bs) (eachIn depth (eachOf depth chans) bs) channels
+    (λ c h. ap (λ (xs : List ℤ). inChannel c (checkReencodeBlock depth (fromBlock depth bs c) xs)) (same c h)))
 
 module _ (depth channels : ℕ) (bs : List ℕ) (fs : List ℤ) where
-  pub short-group : length bs < 12 → No ShortGroup ≡ checkReencodeGroup depth channels bs fs
+  pub short-group : length bs < 12 → No ShortGroup nowhere ≡ checkReencodeGroup depth channels bs fs
   unfolding checkReencodeGroup refuse _then_
   short-group l = rw (lt-ltb (length bs) 12 l)
 
@@ -51,7 +52,7 @@ module _ (depth channels first n : ℕ) (s : List ℤ) (bs : List ℕ) (m : Bool
   abbrev fs : List ℤ
   fs = framesFrom channels first n s
 
-  pub not-stereo : m ≡ true → (channels ≡ 2 → ⊥) → No NotStereo ≡ checkReencodeGroup depth channels bs fs
+  pub not-stereo : m ≡ true → (channels ≡ 2 → ⊥) → No NotStereo nowhere ≡ checkReencodeGroup depth channels bs fs
   unfolding refuse _then_
   not-stereo y more = rw (ne-eqb channels 2 more) at (by-bit depth channels bs fs true long (sym y ∙ bit))
 
@@ -67,7 +68,7 @@ module _ (depth channels first n : ℕ) (s : List ℤ) (bs : List ℕ) (m : Bool
       even-is : parity (unwoven channels fs) ≡ p
       even-is = sym (even ∙ parity-apart channels first n s a two are)
 
-      pub parity-differs : p ≡ false → No ParityDiffers ≡ checkReencodeGroup depth channels bs fs
+      pub parity-differs : p ≡ false → No ParityDiffers nowhere ≡ checkReencodeGroup depth channels bs fs
       unfolding refuse _then_
       parity-differs q = rw (eq-eqb channels 2 two, even-is, q) at (by-bit depth channels bs fs true long (sym y ∙ bit))
 

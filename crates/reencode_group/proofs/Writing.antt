@@ -12,6 +12,7 @@ use mir.Val.{Fits}
 use Rattle.format.specs.Lists.{joined, over}
 use Rattle.format.specs.Blocks.{midBit, sizeOf, fromBlock}
 use Rattle.format.specs.Refusals.{inOrder}
+use Rattle.format.specs.Places.{atChannel}
 use Rattle.format.specs.Encoding.{midSide, parity}
 use Rattle.format.specs.Reencoding.{reencodedBlock, checkReencodeBlock, activeIn, checkReencodeGroup, reencodedGroup}
 use Rattle.format.specs.declared.refusals.Checked.{Checked}
@@ -20,6 +21,7 @@ use Rattle.lent_samples.specs.Lent.{framesFrom}
 use Rattle.laws.proofs.Over.{lend-turn}
 use Rattle.laws.proofs.Parts.{one-more, joined-cong}
 use Rattle.laws.proofs.Checks.{first-fine, others-fine, order-fine}
+use Rattle.laws.proofs.Places.{located-order}
 use Rattle.laws.proofs.Templates.{Template, template-ok, new-length, two-ok, even-ok, chans-plain, chans-both}
 use Rattle.group.proofs.Places.{part, part-is, Begins, begins-more}
 use Rattle.reencode_group.proofs.Apart.{Apart}
@@ -93,7 +95,8 @@ module _ (depth channels : ℕ) (bs : List ℕ) (s : List ℤ) (fine : checkReen
     pub order-ok : inOrder (check depth n bs a) channels ≡ Fine
     unfolding checkReencodeGroup
     order-ok =
-        first-fine _ _ (first-each depth channels n bs a (activeIn channels bs s) (same .are) ∙ others-fine _ _ (others-fine _ _ (others-fine _ _ fine)))
+        located-order (check depth n bs a) atChannel channels
+        (first-fine _ _ (first-each depth channels n bs a (activeIn channels bs s) (same .are) ∙ others-fine _ _ (others-fine _ _ (others-fine _ _ fine))))
 
     pub group-written : (xs d : List ℕ) → d ≡ over (newBefore depth n bs a channels) xs → d ≡ over (reencodedGroup depth channels bs s) xs
     unfolding reencodedGroup

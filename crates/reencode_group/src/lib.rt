@@ -1,5 +1,6 @@
 // A template's group with new samples: its checks, and its blocks, each written into its own part.
 use format::Checked;
+use format::NOWHERE;
 use format::PcmSpec;
 use format::Refusal;
 use le_bytes::read_u16_le;
@@ -15,6 +16,7 @@ ghost use lib.ListN.{length, getD, take};
 ghost use Rattle.format.specs.Lists.{over, joined};
 ghost use Rattle.format.specs.Blocks.{midBit, fromBlock};
 ghost use Rattle.format.specs.Refusals.{refuse, _then_, inOrder};
+ghost use Rattle.format.specs.Places.{inChannel};
 ghost use Rattle.format.specs.Encoding.{channel, padded};
 ghost use Rattle.format.specs.Reencoding.{reencodedBlock, checkReencodeBlock, checkReencodeGroup, reencodedGroup};
 ghost use Rattle.format.specs.declared.refusals.Refusal.the-variants.{TemplateBytesLeft};
@@ -56,21 +58,21 @@ fn channels_of(
 fn check_channels(bs: &[u8], depth: u16, channels: u16, a: [[i32; 512]; 2], n: usize) -> Checked
     requires { ⌜ (1 ≤ depth) × (depth ≤ 32) × (channels ≤ 2) × (0 < n) × (n ≤ 512) ⌝ }
     ensures { λ r. ⌜ (let rest : ℕ → List ℕ = fromBlock depth (now (bs .entry)) in
-        r ≡ (inOrder (λ c. checkReencodeBlock depth (rest c) (take n (getD a c []))) channels
+        r ≡ (inOrder (λ c. inChannel c (checkReencodeBlock depth (rest c) (take n (getD a c [])))) channels
         then refuse (not (eqb (length (rest channels)) 0)) TemplateBytesLeft)) ⌝ }
 {
     let count = channels as usize;
     let mut at: usize = 0;
     let mut c: usize = 0;
     while c < count {
-        if let Checked::No(r) = check_reencode_block(&bs[at..], depth, a[c], n) {
-            return Checked::No(r);
+        if let Checked::No(r, place) = check_reencode_block(&bs[at..], depth, a[c], n) {
+            return Checked::No(r, place.at_channel(c as u16));
         }
         at += block::size_of(&bs[at..], depth);
         c += 1;
     }
     if at != bs.len() {
-        return Checked::No(Refusal::TemplateBytesLeft);
+        return Checked::No(Refusal::TemplateBytesLeft, NOWHERE);
     }
     Checked::Fine
 }
@@ -92,15 +94,15 @@ pub fn check_reencode_group(
         r ≡ checkReencodeGroup (p .«bits_per_sample») (p .channels) (now (bs .entry)) frames) ⌝ }
 {
     if bs.len() < 12 {
-        return Checked::No(Refusal::ShortGroup);
+        return Checked::No(Refusal::ShortGroup, NOWHERE);
     }
     let a = channels_of(which, words, bytes, first, n, p.channels);
     if mid_bit(bs) {
         if p.channels != 2 {
-            return Checked::No(Refusal::NotStereo);
+            return Checked::No(Refusal::NotStereo, NOWHERE);
         }
         if stereo::parity(a) {} else {
-            return Checked::No(Refusal::ParityDiffers);
+            return Checked::No(Refusal::ParityDiffers, NOWHERE);
         }
         return check_channels(bs, p.bits_per_sample, p.channels, stereo::mid_side(a), n);
     }

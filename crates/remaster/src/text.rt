@@ -1,11 +1,14 @@
 // The lines: what decoding and re-encoding answered, and counts.
 use format::Answer;
+use format::Named;
 use format::Outcome;
+use format::Place;
 use remaster_compare::Count;
 use report::print;
 use report::print_number;
 
-// Prints how much was read or written, without the end of the line, or a refusal; and says whether it was no refusal.
+// Prints how much was read or written, without the end of the line, or a refusal, of a file that opens; and says whether
+// it was no refusal.
 pub fn print_done(answer: Answer) -> bool {
     let outcome = answer.outcome;
     match outcome {
@@ -20,7 +23,11 @@ pub fn print_done(answer: Answer) -> bool {
             true
         }
         Outcome::Refused(r) => {
-            report::print_refusal(r);
+            let place = Place {
+                group: answer.group,
+                channel: answer.channel,
+            };
+            report::print_refused(r, Named::inside(r.number()), place);
             print(b"\n");
             false
         }

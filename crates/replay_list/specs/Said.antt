@@ -1,23 +1,16 @@
 -- What an answer, or the number that the host boundary returns, says; and when that is as recorded.
-use Prim.Native.Nat.{ℕ, _-_, _*_, _/_, _^_}
+use Prim.Native.Nat.{ℕ, _+_, _-_, _*_, _/_, _^_}
 use mathlib.Core.Bool.{Bool, _&&_, cond}
 use mathlib.Core.List.{List}
 use lib.ListN.{length, take}
 use lib.IntN.{ℤ}
 use lib.Dec.{ltb, leb, eqb}
 use Rattle.format.specs.Numbers.{codeOf}
-use Rattle.format.specs.Refusals.{number}
+use Rattle.format.specs.Refusals.{number, told}
 use Rattle.format.specs.declared.refusals.Refusal.{Refusal}
-use Rattle.format.specs.declared.refusals.Refusal.the-variants.{TooShort, FileSignature, BlockSignature, BitsWord}
-use Rattle.format.specs.declared.refusals.Refusal.the-variants.{ZeroChannels, DepthUnknown, ZeroRate, TableOffset}
-use Rattle.format.specs.declared.refusals.Refusal.the-variants.{DataOffset, TableLength, LastEntry, DataWithoutFrames}
-use Rattle.format.specs.declared.refusals.Refusal.the-variants.{FirstEntry, EntryBounds, FloatDiffers, MidSideChannels}
-use Rattle.format.specs.declared.refusals.Refusal.the-variants.{BytesLeft, WriterSpec, IncompleteFrame, ValueOutside}
-use Rattle.format.specs.declared.refusals.Refusal.the-variants.{TooManyFrames, NotStereo, ParityDiffers, WidthTooSmall}
-use Rattle.format.specs.declared.refusals.Refusal.the-variants.{DataTooLarge, UnknownMode, SampleBytes, TemplateDiffers}
-use Rattle.format.specs.declared.refusals.Refusal.the-variants.{TemplateBounds, TemplateOffsets, ShortGroup}
-use Rattle.format.specs.declared.refusals.Refusal.the-variants.{TemplateBits, TemplateFlags, TemplateBytesLeft}
-use Rattle.format.specs.declared.refusals.Refusal.the-variants.{OutputTooShort}
+use Rattle.format.specs.declared.refusals.Told.{Told}
+use Rattle.format.specs.declared.refusals.Told.the-variants.{Nothing, Bits, Misfit}
+use Rattle.format.specs.declared.answers.Answer.{Answer}
 use Rattle.format.specs.declared.answers.Outcome.{Outcome}
 use Rattle.format.specs.declared.answers.Outcome.the-variants.{Opened, Read, Finished, Wrote, Refused}
 use Rattle.replay_list.specs.declared.answers.Recorded.{Recorded}
@@ -27,94 +20,89 @@ use Rattle.replay_list.specs.Room.{isKept, sumOf}
 
 -- the call was accepted, and wrote so many bytes
 abbrev pub saidLength : ℕ → Said
-saidLength bytes = record { number = 0; told = 0; length = bytes }
+saidLength bytes = record { number = 0; told = 0; group = 0; channel = 0; length = bytes }
 
 -- the call was refused by a number, and told more
 abbrev pub saidNumber : ℕ → ℕ → Said
-saidNumber refusal more = record { number = refusal; told = more; length = 0 }
+saidNumber refusal more = record { number = refusal; told = more; group = 0; channel = 0; length = 0 }
+
+-- and it named a group and a channel
+abbrev pub saidAt : Said → ℕ → ℕ → Said
+saidAt said group channel =
+    record { number = said .number; told = said .told; group = group; channel = channel; length = said .length }
 
 -- ---- what an answer says
 
 -- what a refusal tells besides its number: the bits word, as 16 bits; the place of a value that does not fit; 0 where
 -- it tells nothing
-unfoldable pub toldBy : Refusal → ℕ
-toldBy (BitsWord b) = codeOf 16 b
-toldBy (WidthTooSmall place) = place
-toldBy TooShort = 0
-toldBy FileSignature = 0
-toldBy BlockSignature = 0
-toldBy ZeroChannels = 0
-toldBy DepthUnknown = 0
-toldBy ZeroRate = 0
-toldBy TableOffset = 0
-toldBy DataOffset = 0
-toldBy TableLength = 0
-toldBy LastEntry = 0
-toldBy DataWithoutFrames = 0
-toldBy FirstEntry = 0
-toldBy EntryBounds = 0
-toldBy FloatDiffers = 0
-toldBy MidSideChannels = 0
-toldBy BytesLeft = 0
-toldBy WriterSpec = 0
-toldBy IncompleteFrame = 0
-toldBy ValueOutside = 0
-toldBy TooManyFrames = 0
-toldBy NotStereo = 0
-toldBy ParityDiffers = 0
-toldBy DataTooLarge = 0
-toldBy UnknownMode = 0
-toldBy SampleBytes = 0
-toldBy TemplateDiffers = 0
-toldBy TemplateBounds = 0
-toldBy TemplateOffsets = 0
-toldBy ShortGroup = 0
-toldBy TemplateBits = 0
-toldBy TemplateFlags = 0
-toldBy TemplateBytesLeft = 0
-toldBy OutputTooShort = 0
+abbrev pub toldBy : Told → ℕ
+toldBy (Bits b) = codeOf 16 b
+toldBy (Misfit place) = place
+toldBy Nothing = 0
 
 -- the number of the refusal, and what it tells
 abbrev pub saidRefused : Refusal → Said
-saidRefused r = saidNumber (number r) (toldBy r)
+saidRefused r = saidNumber (number r) (toldBy (told r))
 
 -- 4 bytes for each sample; from 2 ^ 32 samples on, a length that no list has
 abbrev pub saidSamples : ℕ → Said
 saidSamples samples = saidLength (cond (ltb samples (2 ^ 32)) (4 * samples) (2 ^ 64 - 1))
 
 -- a walk that is done is 255; opening writes nothing, and says a length that no list has
-abbrev pub saidBy : Outcome → Said
-saidBy (Opened h) = saidLength (2 ^ 64 - 1)
-saidBy (Read samples) = saidSamples (samples .0)
-saidBy Finished = saidNumber 255 0
-saidBy (Wrote bytes) = saidLength bytes
-saidBy (Refused r) = saidRefused r
+abbrev pub saidOutcome : Outcome → Said
+saidOutcome (Opened h) = saidLength (2 ^ 64 - 1)
+saidOutcome (Read samples) = saidSamples (samples .0)
+saidOutcome Finished = saidNumber 255 0
+saidOutcome (Wrote bytes) = saidLength bytes
+saidOutcome (Refused r) = saidRefused r
+
+-- that, and the group and the channel that the answer names
+abbrev pub saidBy : Answer → Said
+saidBy answer = saidAt (saidOutcome (answer .outcome)) (answer .group) (answer .channel)
 
 -- the number of a refusal; from 2 ^ 32 on, a number that no refusal has
 abbrev pub refusalOf : ℕ → ℕ
 refusalOf n = cond (ltb n (2 ^ 32)) n (2 ^ 32 - 1)
 
 -- what the host boundary's number says: below 2 ^ 63 a length, otherwise 2 ^ 63 plus a refusal's number. It tells
--- nothing besides: what it would is given
-unfoldable pub saidByHost : ℕ → ℕ → Said
-saidByHost result more =
-    cond (ltb result (2 ^ 63)) (saidLength result) (saidNumber (refusalOf (result - 2 ^ 63)) more)
+-- nothing besides, and names no place: what was recorded is given for these
+unfoldable pub saidByHost : ℕ → Recorded → Said
+saidByHost result want =
+    let refused = saidAt (saidNumber (refusalOf (result - 2 ^ 63)) (want .told)) (want .group) (want .channel) in
+    cond (ltb result (2 ^ 63)) (saidLength result) refused
 
 -- ---- what was recorded
 
--- a refusal by a number, which told more
-abbrev pub recordedRefusal : ℕ → ℕ → Recorded
-recordedRefusal refusal more = record { number = refusal; told = more; length = 0; sum = 0 }
+-- a refusal by a number, which told more, and named a group and a channel
+abbrev pub recordedRefusal : ℕ → ℕ → ℕ → ℕ → Recorded
+recordedRefusal refusal more group channel =
+    record { number = refusal; told = more; group = group; channel = channel; length = 0; sum = 0 }
 
--- that was recorded: the number, what was told and the length are the same, the room has so many samples, of 4 bytes,
--- their sum is the recorded one, and behind them it holds what it was filled with. Of a file whose length is no
--- multiple of 4 the last 1 to 3 bytes are not summed
+-- the place that was recorded of 36
+abbrev pub misfitOf : Recorded → ℕ
+misfitOf want = cond (eqb (want .number) 36) (want .told) 0
+
+-- the word by which the host boundary is to tell that: 0 where the call was accepted, since all four are 0 then.
+-- It does not tell 4's bits word
+unfoldable pub wordOf : Recorded → ℕ
+wordOf want = want .number + 2 ^ 8 * misfitOf want + 2 ^ 24 * want .channel + 2 ^ 40 * want .group
+
+-- what was said was recorded: the number, what was told, the group, the channel and the length are the same
+unfoldable pub isSaid : Said → Recorded → Bool
+isSaid said want =
+    eqb (said .number) (want .number)
+    && eqb (said .told) (want .told)
+    && eqb (said .group) (want .group)
+    && eqb (said .channel) (want .channel)
+    && eqb (said .length) (want .length)
+
+-- that was recorded: what was said, the room has so many samples, of 4 bytes, their sum is the recorded one, and
+-- behind them it holds what it was filled with. Of a file whose length is no multiple of 4 the last 1 to 3 bytes are
+-- not summed
 unfoldable pub isRecorded : Said → Recorded → List ℤ → Bool
 isRecorded said want room =
     let n = want .length / 4 in
-    eqb (said .number) (want .number)
-    && eqb (said .told) (want .told)
-    && eqb (said .length) (want .length)
+    isSaid said want
     && leb n (length room)
     && eqb (sumOf (take n room)) (want .sum)
     && isKept n room

@@ -1,5 +1,5 @@
 -- What opening answers, against what was recorded, at each way out of a comparison.
-use Prim.Native.Nat.{ℕ, _*_, _/_, _%_}
+use Prim.Native.Nat.{ℕ, _+_, _*_, _/_, _%_}
 use mathlib.Core.Path.{_≡_, refl, sym, ap, _∙_}
 use mathlib.Core.Bool.{Bool, true, false, _&&_}
 use mathlib.Core.List.{List, [], _∷_}
@@ -18,7 +18,8 @@ use Rattle.format.specs.declared.answers.Header.{Header}
 use Rattle.format.specs.declared.answers.Outcome.{Outcome}
 use Rattle.format.specs.declared.answers.Outcome.the-variants as outcome
 use Rattle.format.proofs.answers.Outcome.{the-type}
-use Rattle.replay_list.specs.Said.{saidBy}
+use Rattle.replay_list.specs.Said.{saidBy, isSaid}
+use Rattle.replay_list.specs.declared.answers.Recorded.{Recorded}
 use Rattle.replay_list.specs.declared.answers.Said.{Said}
 use Rattle.replay_reading.specs.Opened.{isHeader, isOpened, isLength, isRefused, bothOpen}
 use Rattle.replay_reading.specs.declared.Opened.{Opened}
@@ -59,10 +60,14 @@ module _ (result : ℕ) (want : Opened) where
   unfolding isLength
   length-by s h e = rw e (four-times result (want .frames * want .channels) h)
 
+pub refused-by : (said : Said) (result : ℕ) (want : Recorded) {same : Bool} → same ≡ isSaid said want → (same && eqb result (9223372036854775808 + want .number)) ≡ isRefused said result want
+unfolding isRefused
+refused-by said result want e = rw e refl
+
 -- what the entry and the host boundary say of a file
 module _ (file : List ℕ) (want : RecordedOpening) (answer : Answer) (result : ℕ) (e : answer ≡ openOf file) (f : result ≡ hostOpen file) where
   pub both-open : (header : Opened) (a b : Bool) → want ≡ Opens header → a ≡ isOpened (answer .outcome) header → b ≡ isLength result header → (a && b) ≡ bothOpen file want
   both-open header a b w p q = rw (p, q, w, e, f) refl
 
-  pub both-refuse : (refusal : ℕ) (said : Said) (same : Bool) → want ≡ Refuses refusal → said ≡ saidBy (answer .outcome) → same ≡ isRefused (said .number) result refusal → same ≡ bothOpen file want
+  pub both-refuse : (refusal : Recorded) (said : Said) (same : Bool) → want ≡ Refuses refusal → said ≡ saidBy answer → same ≡ isRefused said result refusal → same ≡ bothOpen file want
   both-refuse refusal said same w p q = rw (q, p, w, e, f) refl

@@ -4,10 +4,11 @@ use mathlib.Core.Bool.{Bool, _&&_}
 use mathlib.Core.List.{List}
 use lib.ListN.{length}
 use lib.IntN.{ℤ}
+use lib.Dec.{eqb}
 use Rattle.format.specs.Decoding.{decodeOf, decodeInto}
-use Rattle.format.specs.Boundary.{hostDecode, hostDecodeInto}
+use Rattle.format.specs.Boundary.{hostDecode, hostDecodeInto, hostDecodeRefusal}
 use Rattle.replay_list.specs.Room.{marked, spoiledAt}
-use Rattle.replay_list.specs.Said.{saidBy, saidByHost, isRecorded}
+use Rattle.replay_list.specs.Said.{saidBy, saidByHost, wordOf, isRecorded}
 use Rattle.replay_list.specs.Bytes.{markedBytes, spoiledBytes, isAnswered}
 use Rattle.replay_list.specs.declared.answers.Recorded.{Recorded}
 
@@ -20,7 +21,7 @@ decodedWords file spoiled room = spoiledAt spoiled (decodeInto file (marked (len
 -- it answers as recorded
 abbrev pub entryDecodes : List ℕ → ℕ → Recorded → List ℤ → Bool
 entryDecodes file spoiled want room =
-    let said = saidBy (decodeOf file (length (marked (length room))) .outcome) in
+    let said = saidBy (decodeOf file (length (marked (length room)))) in
     isRecorded said want (decodedWords file spoiled room)
 
 -- ---- the host boundary decodes it into a room of bytes
@@ -29,12 +30,16 @@ entryDecodes file spoiled want room =
 abbrev pub decodedBytes : List ℕ → ℕ → List ℕ → List ℕ
 decodedBytes file spoiled room = spoiledBytes spoiled (hostDecodeInto file (markedBytes room))
 
--- it answers as recorded
+-- it tells what it refuses in so many bytes of room, and where, as recorded
+abbrev pub hostTells : List ℕ → ℕ → Recorded → Bool
+hostTells file room want = eqb (hostDecodeRefusal file room) (wordOf want)
+
+-- it answers as recorded, and tells that
 abbrev pub hostDecodes : List ℕ → ℕ → Recorded → List ℕ → Bool
 hostDecodes file spoiled want room =
     let lent = markedBytes room in
-    let said = saidByHost (hostDecode file (length lent)) (want .told) in
-    isAnswered said (hostDecodeInto file lent) spoiled want
+    let said = saidByHost (hostDecode file (length lent)) want in
+    isAnswered said (hostDecodeInto file lent) spoiled want && hostTells file (length room) want
 
 -- ---- both do
 

@@ -11,7 +11,9 @@ use Rattle.format.specs.declared.settings.SampleFormat.the-variants.{Pcm, Float
 use Rattle.format.specs.declared.answers.Header.{Header}
 use Rattle.format.specs.declared.answers.Outcome.{Outcome}
 use Rattle.format.specs.declared.answers.Outcome.the-variants as outcome
-use Rattle.replay_list.specs.Said.{saidBy}
+use Rattle.replay_list.specs.Said.{saidBy, isSaid}
+use Rattle.replay_list.specs.declared.answers.Recorded.{Recorded}
+use Rattle.replay_list.specs.declared.answers.Said.{Said}
 use Rattle.replay_list.specs.declared.answers.Verdict.{Verdict}
 use Rattle.replay_reading.specs.declared.Opened.{Opened}
 use Rattle.replay_reading.specs.declared.RecordedOpening.{RecordedOpening}
@@ -47,21 +49,21 @@ isOpened (outcome.Refused r) want = false
 unfoldable pub isLength : ℕ → Opened → Bool
 isLength result want = eqb result (4 * (want .frames * want .channels))
 
--- the refusal's number was said, and the host boundary's is 2 ^ 63 more
-unfoldable pub isRefused : ℕ → ℕ → ℕ → Bool
-isRefused said result number = eqb said number && eqb result (2 ^ 63 + number)
+-- that refusal was said, and the host boundary's number is 2 ^ 63 more than the refusal's
+unfoldable pub isRefused : Said → ℕ → Recorded → Bool
+isRefused said result want = isSaid said want && eqb result (2 ^ 63 + want .number)
 
 -- ---- opening, asked of the entry and of the host boundary
 
 -- both answer as recorded
 abbrev pub bothOpen : List ℕ → RecordedOpening → Bool
 bothOpen file (Opens want) = isOpened (openOf file .outcome) want && isLength (hostOpen file) want
-bothOpen file (Refuses refusal) = isRefused (saidBy (openOf file .outcome) .number) (hostOpen file) refusal
+bothOpen file (Refuses want) = isRefused (saidBy (openOf file)) (hostOpen file) want
 
 -- the number that was recorded: 0 where the file opens
 abbrev pub openingNumber : RecordedOpening → ℕ
 openingNumber (Opens want) = 0
-openingNumber (Refuses refusal) = refusal
+openingNumber (Refuses want) = want .number
 
 -- that, and nothing is written
 abbrev pub openingVerdict : List ℕ → RecordedOpening → Verdict

@@ -18,5 +18,5 @@ steppedWords file group spoiled room = spoiledAt spoiled (stepInto file group (m
 abbrev pub stepsTo : List ℕ → ℕ → ℕ → Recorded → ℕ → List ℤ → Bool
 stepsTo file group spoiled want next room =
     let many = length (marked (length room)) in
-    isRecorded (saidBy (stepOf file group many .outcome)) want (steppedWords file group spoiled room)
+    isRecorded (saidBy (stepOf file group many)) want (steppedWords file group spoiled room)
     && eqb (nextOf file group many) next

@@ -14,11 +14,14 @@ use replay_list::fill;
 use replay_list::fill_bytes;
 use replay_list::is_answered;
 use replay_list::is_recorded;
+use replay_list::is_said;
 use replay_list::judged;
 use replay_list::of_answer;
 use replay_list::of_result;
 use replay_list::read_recorded;
+use replay_list::read_refusal;
 use replay_list::spoil;
+use replay_list::word_of;
 ghost use mathlib.Core.Path.{_≡_};
 ghost use lib.ListN.{length};
 ghost use Rattle.format.specs.Decoding.{decodeOf, decodeInto};
@@ -27,7 +30,7 @@ ghost use Rattle.replay_list.specs.Said.{saidBy, saidByHost, verdictOf};
 ghost use Rattle.replay_reading.specs.Opened.{numberOf, isHeader, isOpened, isLength, isRefused};
 ghost use Rattle.replay_reading.specs.Opened.{bothOpen, openingNumber, openingVerdict};
 ghost use Rattle.replay_reading.specs.Decoded.{decodedWords, entryDecodes, decodedBytes, hostDecodes};
-ghost use Rattle.replay_reading.specs.Decoded.{bothDecode};
+ghost use Rattle.replay_reading.specs.Decoded.{hostTells, bothDecode};
 ghost use Rattle.replay_reading.specs.Stepped.{steppedWords, stepsTo};
 
 // What was recorded of a file that opens: its header's numbers.
@@ -43,10 +46,10 @@ struct Opened {
     format: u32,
 }
 
-// What was recorded of opening a file: the numbers of its header, or the number of the refusal.
+// What was recorded of opening a file: the numbers of its header, or the refusal.
 enum RecordedOpening {
     Opens(Opened),
-    Refuses(u32),
+    Refuses(Recorded),
 }
 
 fn read_opened(list: i32) -> Opened {
@@ -68,7 +71,7 @@ fn read_opening(list: i32) -> RecordedOpening {
     if number == ACCEPTED {
         RecordedOpening::Opens(read_opened(list))
     } else {
-        RecordedOpening::Refuses(number)
+        RecordedOpening::Refuses(read_refusal(list, number))
     }
 }
 
@@ -122,14 +125,11 @@ fn is_length(result: u64, want: Opened) -> bool
     result / 4 == samples.0
 }
 
-// The host boundary's number is 2^63 more than the refusal's.
-fn is_refused(said: u32, result: u64, number: u32) -> bool
-    ensures { λ r. ⌜ r ≡ isRefused said result number ⌝ }
+// Whether that refusal was said; the host boundary's number is 2^63 more than the refusal's.
+fn is_refused(said: Said, result: u64, want: Recorded) -> bool
+    ensures { λ r. ⌜ r ≡ isRefused said result want ⌝ }
 {
-    if said != number {
-        return false;
-    }
-    result == 0x8000_0000_0000_0000 + number as u64
+    is_said(said, want) & (result == 0x8000_0000_0000_0000 + want.number as u64)
 }
 
 // Whether the entry and the host boundary both answer as recorded.
@@ -140,7 +140,7 @@ fn both_open(file: &[u8], want: RecordedOpening) -> bool
     let result = ncw::ncw_open(file);
     match want {
         RecordedOpening::Opens(header) => is_opened(answer, header) & is_length(result, header),
-        RecordedOpening::Refuses(number) => is_refused(of_answer(answer).number, result, number),
+        RecordedOpening::Refuses(refusal) => is_refused(of_answer(answer), result, refusal),
     }
 }
 
@@ -149,7 +149,7 @@ fn opening_number(want: RecordedOpening) -> u32
 {
     match want {
         RecordedOpening::Opens(_) => ACCEPTED,
-        RecordedOpening::Refuses(number) => number,
+        RecordedOpening::Refuses(refusal) => refusal.number,
     }
 }
 
@@ -170,7 +170,7 @@ pub fn open(list: i32, file: &[u8]) -> Verdict {
 }
 
 fn decode_words(file: &[u8], room: &mut [i32]) -> Said
-    ensures says { λ r. ⌜ r ≡ saidBy (decodeOf (now (file .entry)) (length (now (room .entry))) .outcome) ⌝ }
+    ensures says { λ r. ⌜ r ≡ saidBy (decodeOf (now (file .entry)) (length (now (room .entry)))) ⌝ }
     ensures puts { λ _. ⌜ now (room .exit) ≡ decodeInto (now (file .entry)) (now (room .entry)) ⌝ }
 {
     of_answer(reader::decode_samples(file, room))
@@ -187,21 +187,31 @@ fn decode_by_entry(file: &[u8], spoiled: usize, room: &mut [i32], want: Recorded
     is_recorded(said, want, Container::Words, room, &[])
 }
 
-fn decode_bytes(file: &[u8], room: &mut [u8], told: u16) -> Said
-    ensures says { λ r. ⌜ r ≡ saidByHost (hostDecode (now (file .entry)) (length (now (room .entry)))) told ⌝ }
+fn decode_bytes(file: &[u8], room: &mut [u8], want: Recorded) -> Said
+    ensures says { λ r. ⌜ r ≡ saidByHost (hostDecode (now (file .entry)) (length (now (room .entry)))) want ⌝ }
     ensures puts { λ _. ⌜ now (room .exit) ≡ hostDecodeInto (now (file .entry)) (now (room .entry)) ⌝ }
 {
-    of_result(ncw::ncw_decode(file, room), told)
+    of_result(ncw::ncw_decode(file, room), want)
 }
 
-// The host boundary decodes into a room of bytes.
+// Whether the host boundary tells what it refuses in so many bytes of room, and where, as recorded.
+fn host_tells(file: &[u8], room: u64, want: Recorded) -> bool
+    ensures { λ r. ⌜ r ≡ hostTells (now (file .entry)) room want ⌝ }
+{
+    let told = ncw::ncw_decode_refusal(file, room);
+    let recorded = word_of(want);
+    told == recorded
+}
+
+// The host boundary tells what it refuses, and decodes into a room of bytes.
 fn decode_by_host(file: &[u8], spoiled: usize, room: &mut [u8], want: Recorded) -> bool
     ensures says { λ r. ⌜ r ≡ hostDecodes (now (file .entry)) spoiled want (now (room .entry)) ⌝ }
     ensures leaves { λ _. ⌜ now (room .exit) ≡ decodedBytes (now (file .entry)) spoiled (now (room .entry)) ⌝ }
 {
+    let is_told = host_tells(file, room.len() as u64, want);
     fill_bytes(room);
-    let said = decode_bytes(file, room, want.told);
-    is_answered(said, spoiled, room, want)
+    let said = decode_bytes(file, room, want);
+    is_answered(said, spoiled, room, want) & is_told
 }
 
 // Both are asked, each in a room of its own.

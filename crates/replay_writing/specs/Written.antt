@@ -8,9 +8,10 @@ use lib.IntN.{ℤ}
 use lib.Dec.{ltb, eqb}
 use Rattle.format.specs.Encoding.{encodeOf, encodeInto}
 use Rattle.format.specs.Reencoding.{reencodeOf, reencodeInto}
-use Rattle.format.specs.Boundary.{samplesFrom, modeOf, hostEncode, hostEncodeInto, hostReencode, hostReencodeInto}
+use Rattle.format.specs.Boundary.{samplesFrom, modeOf, hostEncode, hostEncodeInto}
+use Rattle.format.specs.Boundary.{hostReencode, hostReencodeInto, hostReencodeRefusal}
 use Rattle.format.specs.declared.settings.PcmSpec.{PcmSpec}
-use Rattle.replay_list.specs.Said.{saidBy, saidByHost}
+use Rattle.replay_list.specs.Said.{saidBy, saidByHost, wordOf}
 use Rattle.replay_list.specs.Bytes.{markedBytes, spoiledBytes, isAnswered}
 use Rattle.replay_list.specs.declared.answers.Recorded.{Recorded}
 use Rattle.replay_list.specs.declared.answers.Said.{Said}
@@ -29,21 +30,27 @@ areWhole bytes = eqb (length bytes % 4) 0
 
 -- the entry, given samples xs and so many bytes of room
 abbrev pub entrySays : Way → PcmSpec → List ℕ → List ℤ → ℕ → Said
-entrySays (Encode mode) p t xs n = saidBy (encodeOf p (modeOf mode) xs n .outcome)
-entrySays Reencode p t xs n = saidBy (reencodeOf p xs t n .outcome)
+entrySays (Encode mode) p t xs n = saidBy (encodeOf p (modeOf mode) xs n)
+entrySays Reencode p t xs n = saidBy (reencodeOf p xs t n)
 
 abbrev pub entryPuts : Way → PcmSpec → List ℕ → List ℤ → List ℕ → List ℕ
 entryPuts (Encode mode) p t xs room = encodeInto p (modeOf mode) xs room
 entryPuts Reencode p t xs room = reencodeInto p xs t room
 
 -- the host boundary, given the bytes s
-abbrev pub hostSays : Way → PcmSpec → List ℕ → List ℕ → ℕ → ℕ → Said
-hostSays (Encode mode) p t s told n = saidByHost (hostEncode s p mode n) told
-hostSays Reencode p t s told n = saidByHost (hostReencode s p t n) told
+abbrev pub hostSays : Way → PcmSpec → List ℕ → List ℕ → Recorded → ℕ → Said
+hostSays (Encode mode) p t s want n = saidByHost (hostEncode s p mode n) want
+hostSays Reencode p t s want n = saidByHost (hostReencode s p t n) want
 
 abbrev pub hostPuts : Way → PcmSpec → List ℕ → List ℕ → List ℕ → List ℕ
 hostPuts (Encode mode) p t s room = hostEncodeInto s p mode room
 hostPuts Reencode p t s room = hostReencodeInto s p t room
+
+-- it tells what it refuses in so many bytes of room, and where, as recorded; of encoding it tells no more than its
+-- number, and that counts as recorded
+abbrev pub hostTells : Way → PcmSpec → List ℕ → List ℕ → ℕ → Recorded → Bool
+hostTells (Encode mode) p t s n want = true
+hostTells Reencode p t s n want = eqb (hostReencodeRefusal s p t n) (wordOf want)
 
 -- ---- the samples that the bytes s are
 
@@ -66,12 +73,12 @@ leftByEntry way p t s spoiled room =
     let written = entryPuts way p t (taken 4096 s) (markedBytes room) in
     cond (isAsked way s) (spoiledBytes spoiled written) room
 
--- the host boundary answers as recorded
+-- the host boundary answers as recorded, and tells what it refuses
 abbrev pub hostWrites : Way → PcmSpec → List ℕ → List ℕ → ℕ → Recorded → List ℕ → Bool
 hostWrites way p t s spoiled want room =
     let lent = markedBytes room in
-    let said = hostSays way p t s (want .told) (length lent) in
-    isAnswered said (hostPuts way p t s lent) spoiled want
+    let said = hostSays way p t s want (length lent) in
+    isAnswered said (hostPuts way p t s lent) spoiled want && hostTells way p t s (length room) want
 
 -- what is in the room then
 abbrev pub leftByHost : Way → PcmSpec → List ℕ → List ℕ → ℕ → List ℕ → List ℕ

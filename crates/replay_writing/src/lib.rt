@@ -12,12 +12,14 @@ use replay_list::of_answer;
 use replay_list::of_result;
 use replay_list::read_recorded;
 use replay_list::room_length;
+use replay_list::word_of;
 ghost use mathlib.Core.Path.{_≡_};
 ghost use Prim.Native.Nat.{_≤_};
 ghost use lib.ListN.{length, take};
 ghost use Rattle.format.specs.Lists.{over};
 ghost use Rattle.replay_list.specs.Said.{verdictOf};
 ghost use Rattle.replay_writing.specs.Written.{taken, isAsked, entrySays, entryPuts, hostSays, hostPuts};
+ghost use Rattle.replay_writing.specs.Written.{hostTells};
 ghost use Rattle.replay_writing.specs.Written.{entryWrites, leftByEntry, hostWrites, leftByHost};
 ghost use Rattle.replay_writing.specs.Written.{bothWrite, leftByBoth};
 
@@ -97,11 +99,17 @@ fn write_by_entry(
     is_answered(said, spoiled, room, want)
 }
 
-// The host boundary does, given the samples as bytes. `told` is what was recorded besides the number, since it
-// tells nothing.
-fn write_bytes(way: Way, samples: &[u8], p: PcmSpec, old: &[u8], room: &mut [u8], told: u16) -> Said
+// The host boundary does, given the samples as bytes. What was recorded is taken for what it does not tell.
+fn write_bytes(
+    way: Way,
+    samples: &[u8],
+    p: PcmSpec,
+    old: &[u8],
+    room: &mut [u8],
+    want: Recorded,
+) -> Said
     ensures says { λ r. ⌜ (let lent = now (room .entry) in
-        r ≡ hostSays way p (now (old .entry)) (now (samples .entry)) told (length lent)) ⌝ }
+        r ≡ hostSays way p (now (old .entry)) (now (samples .entry)) want (length lent)) ⌝ }
     ensures puts { λ _. ⌜ (let lent = now (room .entry) in
         now (room .exit) ≡ hostPuts way p (now (old .entry)) (now (samples .entry)) lent) ⌝ }
 {
@@ -111,16 +119,34 @@ fn write_bytes(way: Way, samples: &[u8], p: PcmSpec, old: &[u8], room: &mut [u8]
     match way {
         Way::Encode(mode) => of_result(
             ncw::ncw_encode(samples, channels, depth, rate, mode, room),
-            told,
+            want,
         ),
         Way::Reencode => of_result(
             ncw::ncw_reencode(samples, channels, depth, rate, old, room),
-            told,
+            want,
         ),
     }
 }
 
-// Whether the host boundary answers as recorded.
+// Whether the host boundary tells what it refuses in so many bytes of room, and where, as recorded. Of encoding it
+// tells no more than its number: that counts as recorded.
+fn host_tells(way: Way, samples: &[u8], p: PcmSpec, old: &[u8], room: u64, want: Recorded) -> bool
+    ensures { λ r. ⌜ r ≡ hostTells way p (now (old .entry)) (now (samples .entry)) room want ⌝ }
+{
+    let channels = p.channels;
+    let depth = p.bits_per_sample;
+    let rate = p.sample_rate;
+    match way {
+        Way::Encode(_) => true,
+        Way::Reencode => {
+            let told = ncw::ncw_reencode_refusal(samples, channels, depth, rate, old, room);
+            let recorded = word_of(want);
+            told == recorded
+        }
+    }
+}
+
+// Whether the host boundary answers as recorded, and tells what it refuses.
 fn write_by_host(
     way: Way,
     samples: &[u8],
@@ -135,9 +161,10 @@ fn write_by_host(
     ensures leaves { λ _. ⌜ (let before = now (room .entry) in
         now (room .exit) ≡ leftByHost way p (now (old .entry)) (now (samples .entry)) spoiled before) ⌝ }
 {
+    let is_told = host_tells(way, samples, p, old, room.len() as u64, want);
     fill_bytes(room);
-    let said = write_bytes(way, samples, p, old, room, want.told);
-    is_answered(said, spoiled, room, want)
+    let said = write_bytes(way, samples, p, old, room, want);
+    is_answered(said, spoiled, room, want) & is_told
 }
 
 // Both are asked, one after the other in one room.

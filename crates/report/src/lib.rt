@@ -6,3 +6,4 @@ pub use opened::print_opened;
 pub use text::print;
 pub use text::print_number;
 pub use text::print_refusal;
+pub use text::print_refused;

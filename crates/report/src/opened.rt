@@ -2,10 +2,12 @@
 use crate::text::print;
 use crate::text::print_format;
 use crate::text::print_number;
-use crate::text::print_refusal;
+use crate::text::print_refused;
 use format::Answer;
 use format::Header;
+use format::Named;
 use format::Outcome;
+use format::Place;
 
 fn print_named(name: &[u8], n: u64, between: &[u8]) {
     print(name);
@@ -25,12 +27,18 @@ fn print_header(h: Header, between: &[u8]) {
     print_format(format);
 }
 
-// Prints the header's numbers, with `between` between them, or the refusal; then the end of the line.
+// Prints the header's numbers, with `between` between them, or the refusal and its place; then the end of the line.
 pub fn print_opened(answer: Answer, between: &[u8]) {
     let outcome = answer.outcome;
     match outcome {
         Outcome::Opened(h) => print_header(h, between),
-        Outcome::Refused(r) => print_refusal(r),
+        Outcome::Refused(r) => {
+            let place = Place {
+                group: answer.group,
+                channel: answer.channel,
+            };
+            print_refused(r, Named::outside(r.number()), place);
+        }
         _ => print(b"no answer"),
     }
     print(b"\n");

@@ -8,34 +8,40 @@ use lib.IntN.{ℤ}
 use lib.ListN.{length}
 use lib.Dec.{leb}
 use borrow.Author.Tests.{le-ltb, le-leb, lt-leb}
-use Rattle.format.specs.Lists.{anyBelow}
+use Rattle.format.specs.Lists.{anyBelow, over}
 use Rattle.format.specs.Header.{isSignature, fieldsOf, groupsOf, entry, groupBytes}
-use Rattle.format.specs.Refusals.{refuse, _then_, inOrder}
+use Rattle.format.specs.Refusals.{nowhere, refuse, _then_, inOrder}
+use Rattle.format.specs.Places.{inGroup}
+use Rattle.format.specs.Answers.{refusedBy, wrote}
 use Rattle.format.specs.Opening.{checkOffsets}
 use Rattle.format.specs.Encoding.{groupIn, checkSamples}
 use Rattle.format.specs.Reencoding.{checkReencoder, checkSame, checkBounds, checkRising, checkTemplate, checkReencodeGroup, checkReencode}
+use Rattle.format.specs.Reencoding.{checkReencodeInto, reencodedFile, reencodeOf, reencodeInto}
 use Rattle.format.specs.declared.refusals.Refusal.{Refusal}
-use Rattle.format.specs.declared.refusals.Refusal.the-variants.{TemplateBounds}
+use Rattle.format.specs.declared.refusals.Refusal.the-variants.{TemplateBounds, OutputTooShort}
+use Rattle.format.specs.declared.refusals.Place.{Place}
 use Rattle.format.specs.declared.refusals.Checked.{Checked}
 use Rattle.format.specs.declared.refusals.Checked.the-variants.{Fine, No}
 use Rattle.format.specs.declared.settings.PcmSpec.{PcmSpec}
 use Rattle.format.specs.declared.units.Frames.{Frames}
 use Rattle.format.specs.declared.answers.Fields.{Fields}
+use Rattle.format.specs.declared.answers.Answer.{Answer}
+use Rattle.laws.proofs.Checks.{first-fine, has-room}
 use Rattle.laws.proofs.Opened.{data-past, data-within}
 use Rattle.laws.proofs.TemplateFiles.{long-ok}
-use Rattle.laws.proofs.Chain.{any-found, any-more}
+use Rattle.laws.proofs.Chain.{any-found, any-more, stops-at, room-short, room-enough}
 
 -- ---- 41: what opening refuses by other numbers
 
 -- a check that refuses by q, whatever it found
 under : Refusal → Checked → Checked
 under q Fine = Fine
-under q (No r) = No q
+under q (No r at) = No q nowhere
 
 under-fine : (q : Refusal) (k : Checked) → under q k ≡ Fine → k ≡ Fine
 unfolding under
 under-fine q Fine e = refl
-under-fine q (No r) e = cc
+under-fine q (No r at) e = cc
 
 under-four : (q w x y z : Refusal) (a b c d : Bool) → under q (refuse a w then refuse b x then refuse c y then refuse d z) ≡ (refuse a q then refuse b q then refuse c q then refuse d q)
 unfolding under refuse _then_
@@ -55,9 +61,9 @@ module _ (h : Fields) (n : ℕ) where
     unfolding under
     bounds-fine e = sym (ap (under TemplateBounds) (sym says ∙ e)) ∙ bounds-are
 
-    pub bounds-no : (r : Refusal) → k ≡ No r → No TemplateBounds ≡ checkBounds h n
+    pub bounds-no : (r : Refusal) (at : Place) → k ≡ No r at → No TemplateBounds nowhere ≡ checkBounds h n
     unfolding under
-    bounds-no r e = sym (ap (under TemplateBounds) (sym says ∙ e)) ∙ bounds-are
+    bounds-no r at e = sym (ap (under TemplateBounds) (sym says ∙ e)) ∙ bounds-are
 
   -- the table that is read is there
   pub table-there : (b : Checked) → b ≡ checkBounds h n → b ≡ Fine → h .table + 4 * (groupsOf (h .frames) + 1) ≤ n
@@ -94,10 +100,63 @@ template-signed p s t long m signed is h reads f counts k e = rw (le-ltb (length
 pub template-long : (p : PcmSpec) (s : List ℤ) (t : List ℕ) (d : Checked) → d ≡ checkTemplate p s t → d ≡ Fine → 32 ≤ length t
 template-long p s t d template passes = omega (arith, long-ok p s t (sym template ∙ passes))
 
-pub groups-rest : (p : PcmSpec) (s : List ℤ) (t : List ℕ) (h : Fields) → h ≡ fieldsOf t
-    → (k : Checked)
-    → k ≡ (checkReencoder p then checkSamples p s then checkTemplate p s t
-    then inOrder (λ g. checkReencodeGroup (h .depth) (h .channels) (groupBytes t h g) (groupIn (h .channels) s g)) (groupsOf (h .frames)))
-    → k ≡ checkReencode p s t
-unfolding checkReencode
-groups-rest p s t h reads k e = rw (← reads) e
+-- ---- all of them in order, into so much room: each stage's answer, and what the ones before it said
+module _ (p : PcmSpec) (s : List ℤ) (t : List ℕ) (room : ℕ) (a : Checked) (asks : a ≡ checkReencoder p) where
+  pub spec-refused : (r : Refusal) (at : Place) → a ≡ No r at → No r at ≡ checkReencodeInto p s t room
+  unfolding checkReencodeInto checkReencode _then_
+  spec-refused r at e = rw (← asks, e)
+
+  module _ (a-fine : a ≡ Fine) (b : Checked) (samples : b ≡ checkSamples p s) where
+    pub samples-refused : (r : Refusal) (at : Place) → b ≡ No r at → No r at ≡ checkReencodeInto p s t room
+    unfolding checkReencodeInto checkReencode _then_
+    samples-refused r at e = rw (← asks, a-fine, ← samples, e)
+
+    module _ (b-fine : b ≡ Fine) (d : Checked) (template : d ≡ checkTemplate p s t) where
+      pub template-refused : (r : Refusal) (at : Place) → d ≡ No r at → No r at ≡ checkReencodeInto p s t room
+      unfolding checkReencodeInto checkReencode _then_
+      template-refused r at e = rw (← asks, a-fine, ← samples, b-fine, ← template, e)
+
+      module _ (d-fine : d ≡ Fine) (h : Fields) (reads : h ≡ fieldsOf t) (k : Checked)
+          (groups : k ≡ inOrder (λ g. inGroup g (checkReencodeGroup (h .depth) (h .channels) (groupBytes t h g) (groupIn (h .channels) s g))) (groupsOf (h .frames))) where
+        all-say : k ≡ checkReencode p s t
+        unfolding checkReencode _then_
+        all-say = rw (← asks, a-fine, ← samples, b-fine, ← template, d-fine, ← reads) groups
+
+        pub groups-refused : (r : Refusal) (at : Place) → k ≡ No r at → No r at ≡ checkReencodeInto p s t room
+        unfolding checkReencodeInto
+        groups-refused r at e = stops-at k (checkReencode p s t) all-say _ r at e
+
+        pub file-short : k ≡ Fine → room < length t → No OutputTooShort nowhere ≡ checkReencodeInto p s t room
+        unfolding checkReencodeInto
+        file-short e l = sym (room-short (checkReencode p s t) (sym all-say ∙ e) room (length t) OutputTooShort l)
+
+        pub file-passes : k ≡ Fine → length t ≤ room → Fine ≡ checkReencodeInto p s t room
+        unfolding checkReencodeInto
+        file-passes e l = sym (room-enough (checkReencode p s t) (sym all-say ∙ e) room (length t) OutputTooShort l)
+
+-- ---- and the answer: k is what they say
+module _ (p : PcmSpec) (s : List ℤ) (t out : List ℕ) (k : Checked) (says : k ≡ checkReencodeInto p s t (length out)) where
+  pub reencode-refused : (r : Refusal) (at : Place) → k ≡ No r at → (x : Answer) → x ≡ refusedBy r at → x ≡ reencodeOf p s t (length out)
+  unfolding reencodeOf
+  reencode-refused r at e x f = rw (← says, e) f
+
+  pub reencode-keeps : (r : Refusal) (at : Place) → k ≡ No r at → out ≡ reencodeInto p s t out
+  unfolding reencodeInto
+  reencode-keeps r at e = rw (← says, e)
+
+  module _ (fine : k ≡ Fine) where
+    pub reencode-fine : checkReencode p s t ≡ Fine
+    unfolding checkReencodeInto
+    reencode-fine = first-fine _ _ (sym says ∙ fine)
+
+    pub reencode-room : length t ≤ length out
+    unfolding checkReencodeInto
+    reencode-room = has-room (checkReencode p s t) (length out) (length t) OutputTooShort (sym says ∙ fine)
+
+    pub reencode-wrote : (x : Answer) → x ≡ wrote (length t) → x ≡ reencodeOf p s t (length out)
+    unfolding reencodeOf
+    reencode-wrote x f = rw (← says, fine) f
+
+    pub reencode-writes : (after : List ℕ) → after ≡ over (reencodedFile s t) out → after ≡ reencodeInto p s t out
+    unfolding reencodeInto
+    reencode-writes after f = rw (← says, fine) f

@@ -1,20 +1,25 @@
-// Every refusal but 50 (the output is too short), in order.
+// Every refusal, in order.
 use format::Checked;
 use format::Depth;
 use format::Fields;
 use format::Frames;
+use format::NOWHERE;
 use format::PcmSpec;
 use format::Refusal;
 use lent_samples::Container;
 ghost use mathlib.Core.Path.{_≡_};
-ghost use Prim.Native.Nat.{_+_, _*_, _≤_};
+ghost use mathlib.Core.List.{List};
+ghost use Prim.Native.Nat.{ℕ, _+_, _*_, _≤_};
 ghost use lib.Dec.{leb};
+ghost use lib.IntN.{ℤ};
 ghost use lib.ListN.{length};
 ghost use Rattle.format.specs.Lists.{anyBelow};
 ghost use Rattle.format.specs.Header.{fieldsOf, groupsOf, entry, groupBytes};
 ghost use Rattle.format.specs.Refusals.{inOrder};
+ghost use Rattle.format.specs.Places.{inGroup};
 ghost use Rattle.format.specs.Encoding.{groupIn, checkSamples};
-ghost use Rattle.format.specs.Reencoding.{checkReencoder, checkReencodeGroup, checkSame, checkBounds, checkRising, checkTemplate, checkReencode};
+ghost use Rattle.format.specs.Reencoding.{checkReencoder, checkReencodeGroup, checkSame, checkBounds, checkRising, checkTemplate};
+ghost use Rattle.format.specs.Reencoding.{checkReencodeInto};
 ghost use Rattle.format.specs.declared.refusals.Checked.the-variants.{Fine};
 ghost use Rattle.lent_samples.specs.Lent.{lentOf};
 
@@ -23,16 +28,16 @@ fn check_same(p: PcmSpec, frames: Frames, h: Fields) -> Checked
     ensures { λ r. ⌜ r ≡ checkSame p frames h ⌝ }
 {
     if h.channels != p.channels {
-        return Checked::No(Refusal::TemplateDiffers);
+        return Checked::No(Refusal::TemplateDiffers, NOWHERE);
     }
     if h.depth != p.bits_per_sample {
-        return Checked::No(Refusal::TemplateDiffers);
+        return Checked::No(Refusal::TemplateDiffers, NOWHERE);
     }
     if h.rate != p.sample_rate {
-        return Checked::No(Refusal::TemplateDiffers);
+        return Checked::No(Refusal::TemplateDiffers, NOWHERE);
     }
     if h.frames.0 != frames.0 {
-        return Checked::No(Refusal::TemplateDiffers);
+        return Checked::No(Refusal::TemplateDiffers, NOWHERE);
     }
     Checked::Fine
 }
@@ -43,7 +48,7 @@ fn check_bounds(h: Fields, n: usize) -> Checked
 {
     match header::check_offsets(h, n) {
         Checked::Fine => Checked::Fine,
-        Checked::No(_) => Checked::No(Refusal::TemplateBounds),
+        Checked::No(_, _) => Checked::No(Refusal::TemplateBounds, NOWHERE),
     }
 }
 
@@ -71,13 +76,13 @@ fn check_rising(t: &[u8], h: Fields) -> Checked
     let frames = h.frames;
     let groups = frames.groups();
     if header::entry_at(t, h, 0) != 0 {
-        return Checked::No(Refusal::TemplateOffsets);
+        return Checked::No(Refusal::TemplateOffsets, NOWHERE);
     }
     if header::entry_at(t, h, groups) != h.size {
-        return Checked::No(Refusal::TemplateOffsets);
+        return Checked::No(Refusal::TemplateOffsets, NOWHERE);
     }
     if any_falls(t, h, groups) {
-        return Checked::No(Refusal::TemplateOffsets);
+        return Checked::No(Refusal::TemplateOffsets, NOWHERE);
     }
     Checked::Fine
 }
@@ -89,18 +94,18 @@ fn check_template(which: Container, words: &[i32], bytes: &[u8], p: PcmSpec, t: 
         r ≡ checkTemplate p lent (now (t .entry))) ⌝ }
 {
     if t.len() < Depth::HEADER_SIZE {
-        return Checked::No(Refusal::TooShort);
+        return Checked::No(Refusal::TooShort, NOWHERE);
     }
     if header::is_signature(t) {} else {
-        return Checked::No(Refusal::FileSignature);
+        return Checked::No(Refusal::FileSignature, NOWHERE);
     }
     let h = header::read_fields(t);
     let frames = validate::frames_of(which, words, bytes, p.channels);
-    if let Checked::No(r) = check_same(p, frames, h) {
-        return Checked::No(r);
+    if let Checked::No(r, place) = check_same(p, frames, h) {
+        return Checked::No(r, place);
     }
-    if let Checked::No(r) = check_bounds(h, t.len()) {
-        return Checked::No(r);
+    if let Checked::No(r, place) = check_bounds(h, t.len()) {
+        return Checked::No(r, place);
     }
     check_rising(t, h)
 }
@@ -119,9 +124,9 @@ fn check_groups(
         × (h ≡ fieldsOf (now t))) ⌝ }
     ensures { λ r. ⌜ (let lent = lentOf which (now (words .entry)) (now (bytes .entry)) in
         let file = now (t .entry) in
-        r ≡ inOrder
-        (λ g. checkReencodeGroup (h .depth) (h .channels) (groupBytes file h g) (groupIn (h .channels) lent g))
-        (groupsOf (h .frames))) ⌝ }
+        let old : ℕ → List ℕ = groupBytes file h in
+        let new : ℕ → List ℤ = groupIn (h .channels) lent in
+        r ≡ inOrder (λ g. inGroup g (checkReencodeGroup (h .depth) (h .channels) (old g) (new g))) (groupsOf (h .frames))) ⌝ }
 {
     let start = h.start as usize;
     let frames = h.frames;
@@ -131,7 +136,7 @@ fn check_groups(
         let a = start + header::entry_at(t, h, g) as usize;
         let e = start + header::entry_at(t, h, g + 1) as usize;
         let n = frames.active(g).0 as usize;
-        if let Checked::No(r) = reencode_group::check_reencode_group(
+        if let Checked::No(r, place) = reencode_group::check_reencode_group(
             which,
             words,
             bytes,
@@ -140,32 +145,39 @@ fn check_groups(
             p,
             &t[a..e],
         ) {
-            return Checked::No(r);
+            return Checked::No(r, place.at_group(g));
         }
         g += 1;
     }
     Checked::Fine
 }
 
-// 30 to 33, then the template, then its groups.
+// 30 to 33, then the template, then its groups, then 50: there is less room than the template is long.
 pub fn check_reencode(
     which: Container,
     words: &[i32],
     bytes: &[u8],
     p: PcmSpec,
     t: &[u8],
+    room: u64,
 ) -> Checked
     ensures { λ r. ⌜ (let lent = lentOf which (now (words .entry)) (now (bytes .entry)) in
-        r ≡ checkReencode p lent (now (t .entry))) ⌝ }
+        r ≡ checkReencodeInto p lent (now (t .entry)) room) ⌝ }
 {
-    if let Checked::No(r) = validate::check_reencoder(p) {
-        return Checked::No(r);
+    if let Checked::No(r, place) = validate::check_reencoder(p) {
+        return Checked::No(r, place);
     }
-    if let Checked::No(r) = validate::check_samples(which, words, bytes, p) {
-        return Checked::No(r);
+    if let Checked::No(r, place) = validate::check_samples(which, words, bytes, p) {
+        return Checked::No(r, place);
     }
-    if let Checked::No(r) = check_template(which, words, bytes, p, t) {
-        return Checked::No(r);
+    if let Checked::No(r, place) = check_template(which, words, bytes, p, t) {
+        return Checked::No(r, place);
     }
-    check_groups(which, words, bytes, p, t, header::read_fields(t))
+    if let Checked::No(r, place) = check_groups(which, words, bytes, p, t, header::read_fields(t)) {
+        return Checked::No(r, place);
+    }
+    if room < t.len() as u64 {
+        return Checked::No(Refusal::OutputTooShort, NOWHERE);
+    }
+    Checked::Fine
 }

@@ -2,13 +2,12 @@
 mod checking;
 mod writing;
 
-use crate::checking::check_reencode;
 use crate::writing::write_file;
+pub use checking::check_reencode;
 use format::Answer;
 use format::Checked;
 use format::Outcome;
 use format::PcmSpec;
-use format::Refusal;
 use lent_samples::Container;
 ghost use Rattle.format.specs.Promises.{Reencodes};
 ghost use Rattle.lent_samples.specs.Lent.{lentOf};
@@ -26,11 +25,15 @@ pub fn reencode_lent(
     ensures { λ r. ⌜ (let lent = lentOf which (now (words .entry)) (now (bytes .entry)) in
         Reencodes p lent (now (template .entry)) (now (out .entry)) r (now (out .exit))) ⌝ }
 {
-    if let Checked::No(r) = check_reencode(which, words, bytes, p, template) {
-        return Answer::refused(r);
-    }
-    if out.len() < template.len() {
-        return Answer::refused(Refusal::OutputTooShort);
+    if let Checked::No(r, place) = check_reencode(
+        which,
+        words,
+        bytes,
+        p,
+        template,
+        out.len() as u64,
+    ) {
+        return Answer::refused(r, place);
     }
     write_file(which, words, bytes, p, template, out);
     Answer::of(Outcome::Wrote(template.len() as u64))

@@ -11,10 +11,11 @@ use lib.Dec.{eqb, ltb}
 use borrow.Author.Tests.{le-ltb, eq-eqb, ne-eqb}
 use Rattle.format.specs.Lists.{every, isIn}
 use Rattle.format.specs.Units.{within, depthOf, framesIn}
-use Rattle.format.specs.Refusals.{refuse, _then_}
+use Rattle.format.specs.Refusals.{nowhere, refuse, _then_}
 use Rattle.format.specs.Encoding.{checkSamples}
 use Rattle.format.specs.declared.refusals.Refusal.{Refusal}
 use Rattle.format.specs.declared.refusals.Refusal.the-variants.{IncompleteFrame, ValueOutside, TooManyFrames}
+use Rattle.format.specs.declared.refusals.Place.{Place}
 use Rattle.format.specs.declared.refusals.Checked.{Checked}
 use Rattle.format.specs.declared.refusals.Checked.the-variants.{Fine, No}
 use Rattle.format.specs.declared.settings.PcmSpec.{PcmSpec}
@@ -72,7 +73,7 @@ module _ (m channels : ℕ) (f : Framed) (some : 1 ≤ channels) (exact : m ≡ 
 
 -- ---- 32: d is the depth that was read, t what was found at it
 module _ (s : List ℤ) (b : ℕ) (d : Depth) (reads : d ≡ depthOf b) (t : Bool) (finds : t ≡ every (within d) s) where
-  pub value-outside : t ≡ false → No ValueOutside ≡ refuse (not (every (within (depthOf b)) s)) ValueOutside
+  pub value-outside : t ≡ false → No ValueOutside nowhere ≡ refuse (not (every (within (depthOf b)) s)) ValueOutside
   unfolding refuse
   value-outside h = rw (← reads, ← finds, h)
 
@@ -82,16 +83,16 @@ module _ (s : List ℤ) (b : ℕ) (d : Depth) (reads : d ≡ depthOf b) (t : Boo
 
 -- ---- 31 to 33: v is 32, f what the samples are in frames
 abbrev in-frames : Checked → Framed → Checked
-in-frames v Incomplete = No IncompleteFrame
+in-frames v Incomplete = No IncompleteFrame nowhere
 in-frames v (Whole n) = v
-in-frames v TooMany = v then No TooManyFrames
+in-frames v TooMany = v then No TooManyFrames nowhere
 
 by-frames : (v : Checked) (n : Frames) (a b : Bool)
     → in-frames v (cond a (cond b TooMany (Whole n)) Incomplete) ≡ (refuse (not a) IncompleteFrame then v then refuse b TooManyFrames)
 unfolding refuse _then_
 by-frames v n true true = refl
 by-frames Fine n true false = refl
-by-frames (No r) n true false = refl
+by-frames (No r at) n true false = refl
 by-frames v n false b = refl
 
 module _ (p : PcmSpec) (s : List ℤ) (some : 1 ≤ p .channels) (f : Framed) (counts : f ≡ framesIn (record { 0 = length s }) (p .channels)) where
@@ -102,7 +103,7 @@ module _ (p : PcmSpec) (s : List ℤ) (some : 1 ≤ p .channels) (f : Framed) (c
   unfolding checkSamples framesIn
   samples-checked = rw (counts, ne-eqb (p .channels) 0 (λ e. omega arith)) (by-frames values _ (eqb (length s % p .channels) 0) (ltb 4294967295 (length s / p .channels)))
 
-  pub incomplete : f ≡ Incomplete → No IncompleteFrame ≡ checkSamples p s
+  pub incomplete : f ≡ Incomplete → No IncompleteFrame nowhere ≡ checkSamples p s
   incomplete h = rw h at samples-checked
 
   module _ (v : Checked) (checks : v ≡ values) where
@@ -110,10 +111,10 @@ module _ (p : PcmSpec) (s : List ℤ) (some : 1 ≤ p .channels) (f : Framed) (c
     whole n h = checks ∙ (rw h at samples-checked)
 
     module _ (h : f ≡ TooMany) where
-      pub outside-first : (r : Refusal) → v ≡ No r → No r ≡ checkSamples p s
+      pub outside-first : (r : Refusal) (at : Place) → v ≡ No r at → No r at ≡ checkSamples p s
       unfolding _then_
-      outside-first r t = sym (ap (λ (k : Checked). k then No TooManyFrames) (sym checks ∙ t)) ∙ (rw h at samples-checked)
+      outside-first r at t = sym (ap (λ (k : Checked). k then No TooManyFrames nowhere) (sym checks ∙ t)) ∙ (rw h at samples-checked)
 
-      pub too-many : v ≡ Fine → No TooManyFrames ≡ checkSamples p s
+      pub too-many : v ≡ Fine → No TooManyFrames nowhere ≡ checkSamples p s
       unfolding _then_
-      too-many t = sym (ap (λ (k : Checked). k then No TooManyFrames) (sym checks ∙ t)) ∙ (rw h at samples-checked)
+      too-many t = sym (ap (λ (k : Checked). k then No TooManyFrames nowhere) (sym checks ∙ t)) ∙ (rw h at samples-checked)

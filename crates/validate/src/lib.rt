@@ -4,6 +4,7 @@ use format::Checked;
 use format::Depth;
 use format::Framed;
 use format::Frames;
+use format::NOWHERE;
 use format::PcmSpec;
 use format::Refusal;
 use lent_samples::Container;
@@ -27,16 +28,16 @@ fn check_spec(p: PcmSpec, most: u16, listed: bool) -> Checked
         → listed ≡ isIn (p .«bits_per_sample») depths → r ≡ checkSpec most depths p) ⌝ }
 {
     if p.channels == 0 {
-        return Checked::No(Refusal::WriterSpec);
+        return Checked::No(Refusal::WriterSpec, NOWHERE);
     }
     if most < p.channels {
-        return Checked::No(Refusal::WriterSpec);
+        return Checked::No(Refusal::WriterSpec, NOWHERE);
     }
     if listed {} else {
-        return Checked::No(Refusal::WriterSpec);
+        return Checked::No(Refusal::WriterSpec, NOWHERE);
     }
     if p.sample_rate == 0 {
-        return Checked::No(Refusal::WriterSpec);
+        return Checked::No(Refusal::WriterSpec, NOWHERE);
     }
     Checked::Fine
 }
@@ -81,7 +82,7 @@ fn check_values(which: Container, words: &[i32], bytes: &[u8], bits: u16) -> Che
         r ≡ refuse (not (every (within (depthOf bits)) lent)) ValueOutside) ⌝ }
 {
     if lent_samples::all_within(which, words, bytes, Depth::of(bits)) {} else {
-        return Checked::No(Refusal::ValueOutside);
+        return Checked::No(Refusal::ValueOutside, NOWHERE);
     }
     Checked::Fine
 }
@@ -92,13 +93,13 @@ pub fn check_samples(which: Container, words: &[i32], bytes: &[u8], p: PcmSpec) 
     ensures { λ r. ⌜ r ≡ checkSamples p (lentOf which (now (words .entry)) (now (bytes .entry))) ⌝ }
 {
     match framed(which, words, bytes, p.channels) {
-        Framed::Incomplete => Checked::No(Refusal::IncompleteFrame),
+        Framed::Incomplete => Checked::No(Refusal::IncompleteFrame, NOWHERE),
         Framed::Whole(_) => check_values(which, words, bytes, p.bits_per_sample),
         Framed::TooMany => {
-            if let Checked::No(r) = check_values(which, words, bytes, p.bits_per_sample) {
-                return Checked::No(r);
+            if let Checked::No(r, place) = check_values(which, words, bytes, p.bits_per_sample) {
+                return Checked::No(r, place);
             }
-            Checked::No(Refusal::TooManyFrames)
+            Checked::No(Refusal::TooManyFrames, NOWHERE)
         }
     }
 }

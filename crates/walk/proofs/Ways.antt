@@ -12,8 +12,9 @@ use borrow.Author.Tests.{lt-ltb, le-ltb, ltb-true, ltb-false}
 use Rattle.format.specs.Lists.{over}
 use Rattle.format.specs.Numbers.{Below}
 use Rattle.format.specs.Header.{fieldsOf, groupsOf, entry, groupBytes}
-use Rattle.format.specs.Refusals.{refuse, _then_}
-use Rattle.format.specs.Answers.{answered}
+use Rattle.format.specs.Refusals.{nowhere, refuse, _then_}
+use Rattle.format.specs.Places.{atGroup, inGroup}
+use Rattle.format.specs.Answers.{answeredBy, refusedBy, answered}
 use Rattle.format.specs.Opening.{formatOf, checkOpen}
 use Rattle.format.specs.Decoding.{checkGroup, channelsOf, woven, groupSamples}
 use Rattle.format.specs.Units.{samplesIn, active}
@@ -21,14 +22,16 @@ use Rattle.format.specs.Walking.{checkStep, stepSamples, stepCount, hasGroup, c
 use Rattle.format.specs.declared.units.Frames.{Frames}
 use Rattle.format.specs.declared.refusals.Refusal.{Refusal}
 use Rattle.format.specs.declared.refusals.Refusal.the-variants.{OutputTooShort}
+use Rattle.format.specs.declared.refusals.Place.{Place}
 use Rattle.format.specs.declared.refusals.Checked.{Checked}
 use Rattle.format.specs.declared.refusals.Checked.the-variants.{Fine, No}
 use Rattle.format.specs.declared.settings.SampleFormat.{SampleFormat}
 use Rattle.format.specs.declared.units.Samples.{Samples}
 use Rattle.format.specs.declared.answers.Fields.{Fields}
-use Rattle.format.specs.declared.answers.Outcome.the-variants.{Read, Finished, Refused}
+use Rattle.format.specs.declared.answers.Outcome.the-variants.{Read, Finished}
 use Rattle.format.specs.declared.answers.Answer.{Answer}
 use Rattle.laws.proofs.Checks.{passed, first-fine, others-fine}
+use Rattle.laws.proofs.Places.{fine-located, located-fine, no-located}
 use Rattle.laws.proofs.Reading.{number-lt}
 use Rattle.laws.proofs.Opened.{opened-long}
 use Rattle.lent_samples.specs.Lent.{placed, wovenFrom}
@@ -70,26 +73,26 @@ module _ (s : List ℕ) (g room : ℕ) (a : Checked) (says : a ≡ checkOpen s) 
     walk-within = part-within s h (sym says ∙ fine) reads groups g p e all below starts ends
 
     module _ (f : SampleFormat) (format : f ≡ formatOf s h) (k : Checked) (checked : k ≡ checkGroup h f (take (e - p) (drop p s))) where
-      checks : checkStep s g ≡ k
+      checks : checkStep s g ≡ inGroup g k
       unfolding checkStep
-      checks = rw (← reads, ← format) (part-checked s h (sym says ∙ fine) reads groups g p e all below starts ends f k k checked refl)
+      checks = rw (← reads, ← format) (ap (inGroup g) (part-checked s h (sym says ∙ fine) reads groups g p e all below starts ends f k k checked refl))
 
       into : (c : Checked) → checkStepInto s g room ≡ c → checkWalk s g room ≡ c
       unfolding checkWalk _then_
       into c t = rw (← says, fine, one-left s g h reads groups all below) t
 
-      pub walk-refused : (r : Refusal) → k ≡ No r → No r ≡ checkWalk s g room
+      pub walk-refused : (r : Refusal) (from at : Place) → k ≡ No r from → at ≡ atGroup g from → No r at ≡ checkWalk s g room
       unfolding checkStepInto _then_
-      walk-refused r t = sym (into (No r) (rw (checks, t)))
+      walk-refused r from at t there = sym (into (No r at) (rw (checks, no-located (atGroup g) k r from t, there)))
 
       module _ (good : k ≡ Fine) (n : Frames) (m : Samples) (count : n .0 ≡ active (h .frames) g) (counts : m ≡ samplesIn n (h .channels)) where
         fits : (b : Bool) → ltb room (m .0) ≡ b → checkStepInto s g room ≡ refuse b OutputTooShort
         unfolding checkStepInto _then_
-        fits b t = rw (checks, good) (ap (λ (x : Bool). refuse x OutputTooShort) (ap (λ (x : Samples). ltb room (x .0)) (sym (in-step s g h reads n m count counts)) ∙ t))
+        fits b t = rw (checks, fine-located (atGroup g) k good) (ap (λ (x : Bool). refuse x OutputTooShort) (ap (λ (x : Samples). ltb room (x .0)) (sym (in-step s g h reads n m count counts)) ∙ t))
 
-        pub walk-short : room < m .0 → No OutputTooShort ≡ checkWalk s g room
+        pub walk-short : room < m .0 → No OutputTooShort nowhere ≡ checkWalk s g room
         unfolding refuse
-        walk-short l = sym (into (No OutputTooShort) (fits true (lt-ltb room (m .0) l)))
+        walk-short l = sym (into (No OutputTooShort nowhere) (fits true (lt-ltb room (m .0) l)))
 
         pub walk-fine : m .0 ≤ room → Fine ≡ checkWalk s g room
         unfolding refuse
@@ -101,13 +104,13 @@ unfolding placed over
 placed-front xs s = rw zero-add refl
 
 module _ (s : List ℕ) (g c : ℕ) (k : Checked) (says : k ≡ checkWalk s g c) where
-  pub step-refused : (room : ℕ) → c ≡ room → (r : Refusal) → k ≡ No r → record { outcome = Refused r } ≡ stepOf s g room
+  pub step-refused : (room : ℕ) → c ≡ room → (r : Refusal) (at : Place) → k ≡ No r at → refusedBy r at ≡ stepOf s g room
   unfolding stepOf
-  step-refused room lent r t = rw (← lent, ← says, t)
+  step-refused room lent r at t = rw (← lent, ← says, t)
 
-  pub step-keeps : (out : List ℤ) → c ≡ length out → (r : Refusal) → k ≡ No r → out ≡ stepInto s g out
+  pub step-keeps : (out : List ℤ) → c ≡ length out → (r : Refusal) (at : Place) → k ≡ No r at → out ≡ stepInto s g out
   unfolding stepInto
-  step-keeps out e r t = rw (← e, ← says, t)
+  step-keeps out e r at t = rw (← e, ← says, t)
 
   module _ (fine : k ≡ Fine) where
     pub step-opens : checkOpen s ≡ Fine
@@ -118,7 +121,7 @@ module _ (s : List ℕ) (g c : ℕ) (k : Checked) (says : k ≡ checkWalk s g c)
     step-fields = omega (arith, opened-long s step-opens)
 
     module _ (h : Fields) (reads : h ≡ fieldsOf s) (groups : ℕ) (all : groups ≡ groupsOf (h .frames)) where
-      pub step-done : (room : ℕ) → c ≡ room → groups ≤ g → record { outcome = Finished } ≡ stepOf s g room
+      pub step-done : (room : ℕ) → c ≡ room → groups ≤ g → answeredBy Finished ≡ stepOf s g room
       unfolding stepOf
       step-done room lent l = rw (← lent, ← says, fine, none-left s g h reads groups all l)
 
@@ -149,7 +152,7 @@ module _ (s : List ℕ) (g c : ℕ) (k : Checked) (says : k ≡ checkWalk s g c)
             some = channels-some s h step-opens reads;
             least = omega (arith, depth-8 s h step-opens reads);
             most = depth-32 s h step-opens reads;
-            fine = ap (checkGroup h f) is-group ∙ rw (format, reads) (first-fine _ _ checks-fine);
+            fine = ap (checkGroup h f) is-group ∙ rw (format, reads) (located-fine (atGroup g) _ (first-fine _ _ checks-fine));
           }
 
         module _ (n : Frames) (count : n .0 ≡ active (h .frames) g) where
@@ -159,9 +162,9 @@ module _ (s : List ℕ) (g c : ℕ) (k : Checked) (says : k ≡ checkWalk s g c)
               let e = ltb-false c (stepCount s g .0) (passed _ _ (others-fine (checkStep s g) _ checks-fine)) in
               omega (arith, ap (λ (x : Samples). x .0) (in-step s g h reads n (samplesIn n (h .channels)) count refl), zero-add (n .0))
 
-          pub step-reads : (room : ℕ) → c ≡ room → (m : Samples) → m ≡ samplesIn n (h .channels) → record { outcome = Read m } ≡ stepOf s g room
+          pub step-reads : (room : ℕ) → c ≡ room → (m : Samples) → m ≡ samplesIn n (h .channels) → answeredBy (Read m) ≡ stepOf s g room
           unfolding stepOf
-          step-reads room lent m counts = rw (← lent, ← says, fine, one-left s g h reads groups all below) (ap (λ (x : Samples). record { outcome = Read x }) (in-step s g h reads n m count counts))
+          step-reads room lent m counts = rw (← lent, ← says, fine, one-left s g h reads groups all below) (ap (λ (x : Samples). answeredBy (Read x)) (in-step s g h reads n m count counts))
 
           pub puts-group :
               (p e : ℕ) → p ≡ h .start + entry s h g → e ≡ h .start + entry s h (g + 1) → (f : SampleFormat) → f ≡ formatOf s h → (out after : List ℤ) → c ≡ length out
@@ -186,6 +189,6 @@ module _ (s : List ℕ) (g room n : ℕ) (a : Answer) (answers : a ≡ stepOf s 
   next-fits byte fits = let e = by (checkWalk s g room) (hasGroup s g) refl in omega (arith, goes-on)
     where
       by : (c : Checked) (b : Bool) → hasGroup s g ≡ b → g + groupsPassed (answered c (cond b (Read (stepCount s g)) Finished) .outcome) < 2 ^ 32
-      by (No r) b e = omega (arith, fits)
+      by (No r at) b e = omega (arith, fits)
       by Fine false e = omega (arith, fits)
       by Fine true e = omega (arith, ltb-true g (groupsOf (fieldsOf s .frames)) e, number-lt 16 4 s byte)

@@ -23,8 +23,8 @@ pub fn decode_group_lent(
     ensures keeps { λ _. ⌜ (let rest = restOf which (now (words .entry)) (now (bytes .entry)) in
         restOf which (now (words .exit)) (now (bytes .exit)) ≡ rest) ⌝ }
 {
-    if let Checked::No(r) = check_walk(file, g, lent_samples::count(which, words, bytes)) {
-        return Answer::refused(r);
+    if let Checked::No(r, place) = check_walk(file, g, lent_samples::count(which, words, bytes)) {
+        return Answer::refused(r, place);
     }
     let h = header::read_fields(file);
     let frames = h.frames;

@@ -7,17 +7,15 @@ use native.Mathlib.Omega.{arith}
 use lib.IntN.{ℤ}
 use lib.ListN.{length}
 use borrow.Author.Tests.{not-false}
-use Rattle.format.specs.Lists.{joined, anyBelow}
+use Rattle.format.specs.Lists.{joined}
 use Rattle.format.specs.Header.{groupsOf}
 use Rattle.format.specs.Units.{active}
 use Rattle.format.specs.Encoding.{unwoven, parity, encodedGroup, groupIn, encodedGroupAt, isMidSide, framesOf}
 use Rattle.format.specs.declared.units.Frames.{Frames}
 use Rattle.format.specs.declared.settings.PcmSpec.{PcmSpec}
 use Rattle.format.specs.declared.settings.StereoMode.{StereoMode}
-use Rattle.laws.proofs.Checks.{found-below}
 use Rattle.laws.proofs.Channels.{some-active, active-low}
 use Rattle.laws.proofs.Parts.{one-more, length-mono}
-use Rattle.laws.proofs.Chain.{any-more, any-found}
 use Rattle.lent_samples.specs.Lent.{framesFrom}
 use Rattle.writer.specs.Accepted.{Accepted}
 use Rattle.encode_group.specs.Writable.{Writable}
@@ -38,16 +36,11 @@ module _ (s : List ℤ) (frames : Frames) (groups g n : ℕ) (long : length s �
   says r e = ap not (ap (λ (x : List ℤ). parity (unwoven 2 x)) (sym (group-frames 2 frames s long g n count)) ∙ sym e)
 
   module _ (r : Bool) (e : r ≡ parity (unwoven 2 (framesFrom 2 (512 * g) n s))) where
-    pub differs-here : r ≡ false → true ≡ anyBelow (differs s) (groupsOf frames)
-    differs-here f = sym (any-found (differs s) g (groupsOf frames) (omega arith) (says r e ∙ ap not f))
+    pub differs-here : r ≡ false → differs s g ≡ true
+    differs-here f = says r e ∙ ap not f
 
-    pub differs-not-yet : anyBelow (differs s) g ≡ false → r ≡ true → anyBelow (differs s) (g + 1) ≡ false
-    differs-not-yet h t = any-more (differs s) g h (says r e ∙ ap not t)
-
-pub differs-nowhere : (s : List ℤ) (frames : Frames) (groups g : ℕ) → anyBelow (differs s) g ≡ false → groups ≡ groupsOf frames → g ≤ groups → groups ≤ g → false ≡ anyBelow (differs s) (groupsOf frames)
-differs-nowhere s frames groups g h all most least =
-    let e : g ≡ groupsOf frames = omega arith in
-    sym (ap (anyBelow (differs s)) (sym e) ∙ h)
+    pub differs-not : r ≡ true → differs s g ≡ false
+    differs-not t = says r e ∙ ap not t
 
 -- ---- a group's bytes
 pub sized-none : (P : ℕ → List ℕ) → 0 ≡ length (joined P 0)
@@ -83,7 +76,7 @@ module _ {p : PcmSpec} {mode : StereoMode} {s : List ℤ} {frames : Frames} {gro
   group-even : isMidSide mode ≡ true → parity (unwoven (p .channels) (framesFrom (p .channels) (512 * g) n s)) ≡ true
   group-even e =
       let below : g < groupsOf (framesOf p s) = rw (here .whole) at inside in
-      rw group-is (not-false _ (found-below _ g _ below (here .good .even e)))
+      rw group-is (here .good .even e g below)
 
   pub group-writable : Writable p mode (512 * g) n s
   group-writable = record {

@@ -9,7 +9,7 @@ use lib.Dec.{ltb}
 use borrow.Author.Tests.{lt-ltb, le-ltb}
 use Rattle.format.specs.Lists.{joined}
 use Rattle.format.specs.Header.{groupsOf}
-use Rattle.format.specs.Refusals.{refuse, _then_}
+use Rattle.format.specs.Refusals.{nowhere, refuse, _then_}
 use Rattle.format.specs.Answers.{wrote, refusedBy}
 use Rattle.format.specs.Encoding.{encodedGroupAt, encodedFile, checkEncoder, checkSamples, checkStereo, checkSize, checkEncode, checkEncodeInto, encodeOf, encodeInto, framesOf}
 use Rattle.format.specs.declared.refusals.Refusal.the-variants.{DataTooLarge}
@@ -28,9 +28,9 @@ module _ (p : PcmSpec) (mode : StereoMode) (s : List ℤ) where
   regroup : (a b c d e : Checked) → ((a then b then c then d) then e) ≡ ((a then b then c) then d then e)
   unfolding _then_
   regroup Fine Fine Fine d e = refl
-  regroup Fine Fine (No r) d e = refl
-  regroup Fine (No r) c d e = refl
-  regroup (No r) b c d e = refl
+  regroup Fine Fine (No r at) d e = refl
+  regroup Fine (No r at) c d e = refl
+  regroup (No r at) b c d e = refl
 
   -- 30 to 35, then 37, then b
   pub in-stages : (b : Checked) → (checkEncode p mode s then b) ≡ (checkInput p mode s then checkSize p mode s then b)
@@ -75,11 +75,11 @@ module _ (p : PcmSpec) (mode : StereoMode) (s : List ℤ) where
       past-input b = in-stages b ∙ rw (← says, fine, ← in-all f counts n sized) refl
 
       module _ (large : 4294967295 < n) where
-        too-large : (b : Checked) → (checkEncode p mode s then b) ≡ No DataTooLarge
+        too-large : (b : Checked) → (checkEncode p mode s then b) ≡ No DataTooLarge nowhere
         unfolding refuse _then_
         too-large b = past-input b ∙ rw (lt-ltb 4294967295 n large) refl
 
-        pub large-refused : (room : ℕ) (a : Answer) → a ≡ refusedBy DataTooLarge → a ≡ encodeOf p mode s room
+        pub large-refused : (room : ℕ) (a : Answer) → a ≡ refusedBy DataTooLarge nowhere → a ≡ encodeOf p mode s room
         unfolding encodeOf checkEncodeInto
         large-refused room a e = rw too-large e
 

@@ -9,6 +9,7 @@ use crate::sizing::data_start;
 use crate::writing::write_file;
 use format::Answer;
 use format::Checked;
+use format::NOWHERE;
 use format::Outcome;
 use format::PcmSpec;
 use format::Refusal;
@@ -31,17 +32,17 @@ pub fn encode_lent(
     ensures { λ r. ⌜ (let lent = lentOf which (now (words .entry)) (now (bytes .entry)) in
         Encodes p mode lent (now (out .entry)) r (now (out .exit))) ⌝ }
 {
-    if let Checked::No(r) = check_input(which, words, bytes, p, mode) {
-        return Answer::refused(r);
+    if let Checked::No(r, place) = check_input(which, words, bytes, p, mode) {
+        return Answer::refused(r, place);
     }
     let frames = validate::frames_of(which, words, bytes, p.channels);
     let size = data_size(which, words, bytes, p, mode, frames);
     if 0xFFFF_FFFF < size {
-        return Answer::refused(Refusal::DataTooLarge);
+        return Answer::refused(Refusal::DataTooLarge, NOWHERE);
     }
     let end = data_start(frames) as u64 + size;
     if (out.len() as u64) < end {
-        return Answer::refused(Refusal::OutputTooShort);
+        return Answer::refused(Refusal::OutputTooShort, NOWHERE);
     }
     write_file(which, words, bytes, p, mode, frames, size as u32, out);
     Answer::of(Outcome::Wrote(end))

@@ -1,16 +1,15 @@
-// What is found over all groups before anything is written: parity, and how much the groups take.
+// How much the groups take, before anything is written.
 use format::Depth;
 use format::Frames;
 use format::PcmSpec;
 use format::StereoMode;
 use lent_samples::Container;
 ghost use mathlib.Core.Path.{_≡_};
-ghost use mathlib.Core.Bool.{not};
 ghost use Prim.Native.Nat.{_+_, _*_, _/_, _<_, _^_};
 ghost use lib.ListN.{length};
-ghost use Rattle.format.specs.Lists.{anyBelow, joined};
+ghost use Rattle.format.specs.Lists.{joined};
 ghost use Rattle.format.specs.Header.{groupsOf};
-ghost use Rattle.format.specs.Encoding.{unwoven, parity, groupIn, encodedGroupAt};
+ghost use Rattle.format.specs.Encoding.{encodedGroupAt};
 ghost use Rattle.lent_samples.specs.Lent.{lentOf};
 ghost use Rattle.writer.specs.Accepted.{Accepted};
 
@@ -19,30 +18,6 @@ pub fn data_start(frames: Frames) -> u32
     ensures { λ r. ⌜ r ≡ 120 + 4 * (groupsOf frames + 1) ⌝ }
 {
     120 + 4 * (frames.groups() + 1)
-}
-
-// Whether in some group of two channels a frame has samples of different parity.
-pub fn parity_differs(which: Container, words: &[i32], bytes: &[u8], frames: Frames) -> bool
-    requires { ⌜ length (lentOf which (now words) (now bytes)) ≡ 2 * frames .0 ⌝ }
-    ensures { λ r. ⌜ (let lent = lentOf which (now (words .entry)) (now (bytes .entry)) in
-        r ≡ anyBelow (λ g. not (parity (unwoven 2 (groupIn 2 lent g)))) (groupsOf frames)) ⌝ }
-{
-    let groups = frames.groups();
-    let mut g: u32 = 0;
-    while g < groups {
-        let n = frames.active(g).0 as usize;
-        if stereo::frames_parity(
-            which,
-            words,
-            bytes,
-            Depth::SAMPLES_PER_BLOCK * g as usize,
-            n,
-        ) {} else {
-            return true;
-        }
-        g += 1;
-    }
-    false
 }
 
 // How many bytes the groups take.

@@ -3,6 +3,7 @@ use super::Call;
 use crate::input::{word, Answers, SUCCESS};
 use crate::lent::Written;
 use crate::parts::parts;
+use crate::refusals::Places;
 use crate::table::{line, width_of, width_word, Table, Width};
 
 pub type Tally = crate::input::Tally<OfCalls>;
@@ -11,6 +12,7 @@ pub type Tally = crate::input::Tally<OfCalls>;
 pub struct OfCalls {
     /// By number and by mode. The last column is for all other modes.
     numbers: Table<u32, 4>,
+    pub places: Places,
     /// By the flags.
     groups: Table<&'static str, 2>,
     /// By the bits word and the flags.
@@ -40,14 +42,16 @@ impl OfCalls {
 impl Answers for OfCalls {
     fn add(&mut self, other: &Self) {
         self.numbers.add(&other.numbers);
+        self.places.add(&other.places);
         self.groups.add(&other.groups);
         self.blocks.add(&other.blocks);
     }
 
-    /// The answers by mode; then the groups, and the blocks by width.
+    /// The answers by mode, and where they are; then the groups, and the blocks by width.
     fn print(&self) {
         line("answer", ["auto", "direct", "mid/side", "no mode"]);
         self.numbers.print(word);
+        self.places.print();
         line("width", ["direct", "mid/side"]);
         self.groups.print(str::to_string);
         self.blocks.print(width_word);

@@ -5,6 +5,7 @@ use crate::encoding::{MODES, OUR_MODES};
 use crate::errors::number_of;
 use crate::input::{calmly, differ, word, Difference, SUCCESS};
 use crate::lent::check_room;
+use crate::refusals::{check_words, nowhere};
 use crate::writing::RATE;
 use std::io::{stdout, Write};
 use std::slice;
@@ -76,7 +77,17 @@ impl Call<'_> {
 
     fn check_boundary(&self, tally: &mut Tally) -> Result<(), Difference> {
         let name = "the host boundary";
-        calmly(name, || check_room(name, |room| self.by_boundary(room), ROOM, 0, &Err(self.number), tally))?
+        calmly(name, || check_room(name, |room| self.by_boundary(room), ROOM, 0, &Err(self.number), tally))??;
+        match self.operation {
+            Operation::Encode(_) => Ok(()),
+            Operation::Reencode(template) => calmly(name, || self.check_word(template, tally))?,
+        }
+    }
+
+    /// None of them concerns a group.
+    fn check_word(&self, template: &[u8], tally: &mut Tally) -> Result<(), Difference> {
+        let call = |room| boundary::reencode_refusal(self.bytes(), self.channels, DEPTH, RATE, template, room);
+        check_words("ncw_reencode_refusal", call, &[ROOM], 0, Some(nowhere(self.number)), tally)
     }
 
     fn by_original(&self) -> u32 {
@@ -98,11 +109,15 @@ impl Call<'_> {
     }
 
     fn by_boundary(&self, room: &mut [u8]) -> u64 {
-        // SAFETY: the bytes are just those of the samples, borrowed as long.
-        let bytes = unsafe { slice::from_raw_parts(self.samples.as_ptr().cast(), size_of_val(self.samples)) };
+        let (bytes, channels) = (self.bytes(), self.channels);
         match self.operation {
-            Operation::Encode(mode) => boundary::encode(bytes, self.channels, DEPTH, RATE, mode, room),
-            Operation::Reencode(template) => boundary::reencode(bytes, self.channels, DEPTH, RATE, template, room),
+            Operation::Encode(mode) => boundary::encode(bytes, channels, DEPTH, RATE, mode, room),
+            Operation::Reencode(template) => boundary::reencode(bytes, channels, DEPTH, RATE, template, room),
         }
+    }
+
+    fn bytes(&self) -> &[u8] {
+        // SAFETY: the bytes are just those of the samples, borrowed as long.
+        unsafe { slice::from_raw_parts(self.samples.as_ptr().cast(), size_of_val(self.samples)) }
     }
 }

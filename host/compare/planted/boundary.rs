@@ -1,4 +1,4 @@
-//! The calls of the host boundary, with a fault planted after decoding, encoding and re-encoding: `PLANTED` says which.
+//! The calls of the host boundary, with a fault planted after all but opening: `PLANTED` says which.
 use std::sync::OnceLock;
 
 pub use ours::boundary::open;
@@ -28,6 +28,20 @@ pub fn reencode(samples: &[u8], channels: u16, depth: u16, rate: u32, template: 
     spoil_input("a byte of the samples changed", samples);
     spoil_input("a byte of the template changed", template);
     spoiled(answer, file)
+}
+
+pub fn decode_refusal(file: &[u8], room: u64) -> u64 {
+    read_past(file);
+    let word = ours::boundary::decode_refusal(file, room);
+    spoil_input("a byte changed by asking where", file);
+    misplaced(word, room, file)
+}
+
+pub fn reencode_refusal(samples: &[u8], channels: u16, depth: u16, rate: u32, template: &[u8], room: u64) -> u64 {
+    read_past(template);
+    let word = ours::boundary::reencode_refusal(samples, channels, depth, rate, template, room);
+    spoil_input("a byte changed by asking where", samples);
+    misplaced(word, room, template)
 }
 
 /// Changes what was lent for reading.
@@ -64,6 +78,42 @@ fn spoiled(answer: u64, lent: &mut [u8]) -> u64 {
         _ => (),
     }
     answer
+}
+
+/// A word of where it was refused, with the fault in it; of a file, or of a template.
+fn misplaced(word: u64, room: u64, file: &[u8]) -> u64 {
+    let (number, place, channel, group) = (word & 0xFF, word >> 8 & 0xFFFF, word >> 24 & 0xFFFF, word >> 40);
+    let with = |place: u64, channel: u64, group: u64| number + (place << 8) + (channel << 24) + (group << 40);
+    match (planted(), number) {
+        ("a group too far", _) if group > 0 => with(place, channel, group + 1),
+        ("a channel too far", _) if channel > 0 => with(place, channel + 1, group),
+        ("group and channel exchanged", _) => with(place, group, channel),
+        ("22 with the last channel", 22) | ("46 with the last channel", 46) => with(place, last_channel(file), group),
+        ("19 with the last bad group", 19) => with(place, channel, last_bad_group(file)),
+        ("4 with its bits word", 4) => with(33, channel, group),
+        ("32 with a group", 32) | ("42 with a group", 42) | ("50 with a group", 50) => with(place, channel, 1),
+        ("no place", 36) => with(0, channel, group),
+        ("the place from 2^16 on", 36) => with(place << 8, channel, group),
+        ("2^63 with a place", 1..) => REFUSED + word,
+        ("39 with 2^63", 39) => REFUSED + word,
+        ("50 before the place", 1..) if room == 0 => 50,
+        _ => word,
+    }
+}
+
+fn number_at(file: &[u8], at: usize) -> u64 {
+    file[at..at + 4].iter().rev().fold(0, |number, byte| 256 * number + u64::from(*byte))
+}
+
+fn last_channel(file: &[u8]) -> u64 {
+    number_at(file, 8) % 65_536 - 1
+}
+
+fn last_bad_group(file: &[u8]) -> u64 {
+    let entry = |k: u64| number_at(file, number_at(file, 20) as usize + 4 * k as usize);
+    let least = 80 * (last_channel(file) + 1);
+    let is_bad = |group: &u64| entry(group + 1) > number_at(file, 28) || entry(group + 1) < entry(*group) + least;
+    (0..number_at(file, 16).div_ceil(512)).rev().find(is_bad).expect("19 is told")
 }
 
 fn spoil(byte: Option<&mut u8>) {

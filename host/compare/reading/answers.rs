@@ -1,20 +1,24 @@
 //! How many files met each answer.
 use super::sides::Said;
 use crate::input::{word, Answers, Refused, SUCCESS};
+use crate::refusals::Places;
 use crate::table::{line, Table};
 
 pub type Tally = crate::input::Tally<OfFiles>;
 
-/// By number: opening, and decoding, which is asked of the files that open.
 #[derive(Default)]
-pub struct OfFiles(Table<u32, 2>);
+pub struct OfFiles {
+    /// By number: opening, and decoding, which is asked of the files that open.
+    numbers: Table<u32, 2>,
+    pub places: Places,
+}
 
 impl Tally {
     pub fn note(&mut self, said: &Said) {
         self.inputs += 1;
-        self.answers.0.note(number(&said.opened), 0);
+        self.answers.numbers.note(number(&said.opened), 0);
         if said.opened.is_ok() {
-            self.answers.0.note(number(&said.decoded), 1);
+            self.answers.numbers.note(number(&said.decoded), 1);
             self.samples += said.decoded.as_ref().map_or(0, Vec::len) as u64;
         }
     }
@@ -26,11 +30,13 @@ fn number<T>(said: &Result<T, Refused>) -> u32 {
 
 impl Answers for OfFiles {
     fn add(&mut self, other: &Self) {
-        self.0.add(&other.0);
+        self.numbers.add(&other.numbers);
+        self.places.add(&other.places);
     }
 
     fn print(&self) {
         line("answer", ["opening", "decoding"]);
-        self.0.print(word);
+        self.numbers.print(word);
+        self.places.print();
     }
 }

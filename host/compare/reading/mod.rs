@@ -5,6 +5,7 @@ mod families;
 mod rooms;
 mod shrink;
 mod sides;
+mod watched;
 
 use crate::families::Family;
 use crate::input::{Difference, Input};

@@ -4,8 +4,10 @@ use super::sides::Said;
 use crate::boundary;
 use crate::input::{differ, Difference};
 use crate::lent::{self, as_bytes, check_room, words, Lent, Written, MOST_REFUSED, REFUSED};
+use crate::located::Refused;
+use crate::refusals::check_words;
 
-pub fn check(file: &[u8], said: &Said, tally: &mut Tally) -> Result<(), Difference> {
+pub fn check(file: &[u8], said: &Said, located: Option<Refused>, tally: &mut Tally) -> Result<(), Difference> {
     let mark = lent::mark(file);
     let lent = Lent::of(file, mark);
     check_open(&lent, said, tally)?;
@@ -14,8 +16,11 @@ pub fn check(file: &[u8], said: &Said, tally: &mut Tally) -> Result<(), Differen
         Err((number, _)) => Err(*number),
     };
     let decode = |samples: &mut [u8]| boundary::decode(lent.part(), samples);
-    let mut rooms = rooms(said, &written, mark).into_iter();
-    rooms.try_for_each(|room| check_room("ncw_decode", decode, room, mark, &written, tally))?;
+    let rooms = rooms(said, &written, mark);
+    rooms.iter().try_for_each(|room| check_room("ncw_decode", decode, *room, mark, &written, tally))?;
+    let refusal = |room| boundary::decode_refusal(lent.part(), room);
+    let length = written.map_or(0, |bytes| bytes.len());
+    check_words("ncw_decode_refusal", refusal, &rooms, length, located, tally)?;
     lent.check_kept("the file's own bytes", file, mark)
 }
 

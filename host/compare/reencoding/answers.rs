@@ -4,6 +4,7 @@ use super::Call;
 use crate::input::{word, Answers, SUCCESS};
 use crate::lent::Written;
 use crate::parts::{parts, Block};
+use crate::refusals::Places;
 use crate::table::{line, width_of, width_word, Table, Width};
 
 pub type Tally = crate::input::Tally<OfCalls>;
@@ -16,6 +17,7 @@ pub struct OfCalls {
     kept: Table<&'static str, 2>,
     /// By the bits word: in direct groups with flags 0 and 1, in mid/side ones with flags 0 and 1.
     blocks: Table<Width, 4>,
+    pub places: Places,
     pub misfits: Misfits,
 }
 
@@ -46,13 +48,15 @@ impl Answers for OfCalls {
         self.numbers.add(&other.numbers);
         self.kept.add(&other.kept);
         self.blocks.add(&other.blocks);
+        self.places.add(&other.places);
         self.misfits.add(&other.misfits);
     }
 
-    /// The answers by channels; how many files are the template; the blocks by width; what 36 is told of.
+    /// The answers by channels, and where they are; how many files are the template; the blocks by width; what 36 is told of.
     fn print(&self) {
         line("answer", ["mono", "stereo", "others"]);
         self.numbers.print(word);
+        self.places.print();
         line("", ["template", "changed"]);
         self.kept.print(str::to_string);
         line("width", ["direct 0", "direct 1", "mid/side 0", "mid/side 1"]);

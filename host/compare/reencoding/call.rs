@@ -3,7 +3,7 @@ use crate::lent::as_bytes;
 use crate::writing::Sampled;
 
 /// All but the room.
-#[derive(Clone, PartialEq, Hash)]
+#[derive(Clone, PartialEq)]
 pub struct Call {
     /// Their bytes, 4 a sample, which may be too few for the last one.
     pub samples: Vec<u8>,

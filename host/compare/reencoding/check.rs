@@ -1,10 +1,11 @@
 //! One call on both sides.
 use super::answers::Tally;
-use super::place::{self, REFERENCE};
-use super::sides::{drop_in, original, Worded};
+use super::places::refer;
+use super::sides::{drop_in, original, refusal_of_drop_in, Worded};
 use super::{rooms, Call};
 use crate::input::{calmly, differ, Difference};
 use crate::lent::Written;
+use crate::refusals::{self, REFERENCE};
 use crate::writing::same;
 
 pub fn check(call: &Call, tally: &mut Tally) -> Result<(), Difference> {
@@ -18,8 +19,11 @@ pub fn check(call: &Call, tally: &mut Tally) -> Result<(), Difference> {
             return differ("the bits word by the drop-in crate", &word.to_string(), &ours_word.to_string());
         }
     }
-    calmly("the host boundary", || rooms::check(call, &rust, tally))??;
-    calmly(REFERENCE, || place::check(call, &rust, tally))?
+    let located = calmly(REFERENCE, || refer(call, &rust, word, tally))??;
+    if let Some(said) = calmly("the drop-in crate", || refusal_of_drop_in(call))? {
+        refusals::check_drop_in("a refused re-encoding", said, located)?;
+    }
+    calmly("the host boundary", || rooms::check(call, &rust, located, tally))?
 }
 
 /// The bits word by itself.

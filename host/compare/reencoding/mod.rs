@@ -4,7 +4,7 @@ mod call;
 mod check;
 mod families;
 mod misfits;
-mod place;
+mod places;
 mod rooms;
 mod shrink;
 mod sides;

@@ -21,6 +21,15 @@ pub fn original(call: &Call) -> Worded {
 /// Nothing where the crate can't be asked: it has no part of a sample.
 pub fn drop_in(call: &Call) -> Option<Worded> {
     let samples = call.numbers()?;
-    let spec = ours::PcmSpec { channels: call.channels, bits_per_sample: call.depth, sample_rate: call.rate };
-    Some(ours::encode_pcm_with_template(&samples, spec, &call.template).map_err(refused))
+    Some(ours::encode_pcm_with_template(&samples, spec_of(call), &call.template).map_err(refused))
+}
+
+/// Where it refuses, if it can be asked.
+pub fn refusal_of_drop_in(call: &Call) -> Option<Option<ours::Refused>> {
+    let samples = call.numbers()?;
+    Some(ours::reencode_refusal(&samples, spec_of(call), &call.template, usize::MAX))
+}
+
+fn spec_of(call: &Call) -> ours::PcmSpec {
+    ours::PcmSpec { channels: call.channels, bits_per_sample: call.depth, sample_rate: call.rate }
 }

@@ -1,4 +1,5 @@
-//! The four calls of the archive as they are: they answer a length in bytes, or [`REFUSED`] plus the number of a refusal.
+//! The six calls of the archive as they are. Four answer a length in bytes, or [`REFUSED`] plus the number of a refusal. The two
+//! others write nothing, and answer where a refusal is.
 //!
 //! All that is `unsafe` in this crate is here.
 #![allow(unsafe_code)]
@@ -37,6 +38,17 @@ extern "C" {
         file: *mut u8,
         file_len: usize,
     ) -> u64;
+    fn ncw_decode_refusal(file: *const u8, file_len: usize, room: u64) -> u64;
+    fn ncw_reencode_refusal(
+        samples: *const u8,
+        samples_len: usize,
+        channels: u16,
+        depth: u16,
+        rate: u32,
+        template: *const u8,
+        template_len: usize,
+        room: u64,
+    ) -> u64;
 }
 
 /// Opens a file: how many bytes decoding it would write, if it does not refuse.
@@ -69,6 +81,20 @@ pub fn reencode(samples: &[u8], channels: u16, depth: u16, rate: u32, template: 
     // SAFETY: the call reads the bytes of `samples` and `template`, writes bytes of `file`, touches no others, and keeps nothing
     // of them. The borrows keep what is written apart from what is read.
     unsafe { ncw_reencode(from, samples.len(), channels, depth, rate, like, template.len(), room, file.len()) }
+}
+
+/// What [`decode`] refuses with room for so many bytes: 0 where it does not, otherwise the number of the refusal, without [`REFUSED`],
+/// plus 2^8 times the place (always 0 here), 2^24 times the channel and 2^40 times the group.
+pub fn decode_refusal(file: &[u8], room: u64) -> u64 {
+    // SAFETY: the call reads the bytes of `file` and no others, and keeps nothing of them.
+    unsafe { ncw_decode_refusal(file.as_ptr(), file.len(), room) }
+}
+
+/// What [`reencode`] refuses with room for so many bytes, as [`decode_refusal`] answers; the place is that of 36, and 0 otherwise.
+pub fn reencode_refusal(samples: &[u8], channels: u16, depth: u16, rate: u32, template: &[u8], room: u64) -> u64 {
+    let (from, like) = (samples.as_ptr(), template.as_ptr());
+    // SAFETY: the call reads the bytes of `samples` and `template` and no others, and keeps nothing of them.
+    unsafe { ncw_reencode_refusal(from, samples.len(), channels, depth, rate, like, template.len(), room) }
 }
 
 /// The same samples as bytes.

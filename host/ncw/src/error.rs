@@ -3,7 +3,7 @@ use std::error::Error;
 use std::fmt;
 use std::io;
 
-/// Why a file was not opened or not decoded, or samples were not encoded or not re-encoded.
+/// Why a file was not opened or not decoded, or samples were not encoded or not re-encoded. [`Refused`](crate::Refused) tells where.
 #[derive(Debug)]
 pub enum NcwError {
     /// The input or the template ends too soon (refusal 1, of the kind [`io::ErrorKind::UnexpectedEof`]), or reading the input

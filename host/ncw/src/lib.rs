@@ -5,11 +5,13 @@ pub mod boundary;
 mod error;
 mod opened;
 mod reader;
+mod refused;
 mod slices;
 mod writer;
 
 pub use error::NcwError;
 pub use opened::{NcwHeader, Opened, SampleFormat, SAMPLES_PER_BLOCK};
 pub use reader::NcwReader;
+pub use refused::{decode_refusal, reencode_refusal, Refused};
 pub use slices::{decode_bytes, decode_into, open};
 pub use writer::{encode_into, encode_pcm, encode_pcm_with_template, encode_with_template_into, PcmSpec, StereoMode};

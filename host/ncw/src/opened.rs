@@ -5,7 +5,6 @@
 pub const SAMPLES_PER_BLOCK: usize = 512;
 
 const BLOCK_HEADER: usize = 16;
-const WIDEST: usize = 32;
 
 /// The numbers of a file's header.
 #[derive(Debug, Clone, PartialEq, Eq)]
@@ -72,20 +71,19 @@ impl NcwHeader {
     }
 }
 
-/// The first bits word beyond 32, of a file that decoding refuses for it, or of a template that re-encoding does: the archive gives
-/// the number 4 alone. All blocks before were accepted with their groups, so they lie end to end from the data offset on.
-pub(crate) fn bits_beyond(file: &[u8]) -> Option<i16> {
+/// The bits word of a block, where those before it in its group were accepted.
+pub(crate) fn bits_word(file: &[u8], group: u32, channel: u16) -> Option<i16> {
     let header = NcwHeader::of(file)?;
-    let mut place = header.data_offset as usize;
-    loop {
-        let bits = u16_at(file, place + 8)? as i16;
-        let width = match bits.unsigned_abs() {
+    let entry = u32_at(file, header.blocks_offset as usize + 4 * group as usize)?;
+    let bits = |block: usize| Some(u16_at(file, block + 8)? as i16);
+    let behind = |block: usize, _| {
+        let width = match bits(block)?.unsigned_abs() {
             0 => header.bits_per_sample,
-            width if usize::from(width) > WIDEST => return Some(bits),
             width => width,
         };
-        place += BLOCK_HEADER + usize::from(width) * SAMPLES_PER_BLOCK / 8;
-    }
+        Some(block + BLOCK_HEADER + usize::from(width) * SAMPLES_PER_BLOCK / 8)
+    };
+    bits((0..channel).try_fold(header.data_offset as usize + entry as usize, behind)?)
 }
 
 fn u16_at(file: &[u8], place: usize) -> Option<u16> {
@@ -104,16 +102,21 @@ fn at<const N: usize>(file: &[u8], place: usize) -> Option<[u8; N]> {
 mod tests {
     use super::*;
 
-    /// Bytes that no file has: the walk over blocks ends on them, and finds nothing or what lies there.
+    /// Bytes that no file has: the walk over a group's blocks ends on them, and finds nothing or what lies there.
     #[test]
     fn any_bytes() {
+        let places = [(0, 0), (0, u16::MAX), (1, 1), (u32::MAX, u16::MAX)];
         for (byte, length) in [0, 1, 32, 33, 0x7F, 0xFF].into_iter().flat_map(|byte| (0..300).map(move |n| (byte, n))) {
             let mut file = vec![byte; length];
-            assert_eq!(bits_beyond(&file), None, "{length} bytes {byte}");
             assert!(Opened::of(&file).is_none() || byte == 0);
+            for (group, channel) in places.into_iter().filter(|_| byte != 0) {
+                assert_eq!(bits_word(&file, group, channel), None, "{length} bytes {byte}");
+            }
             file.iter_mut().skip(20).take(12).for_each(|byte| *byte = 0);
-            let found = bits_beyond(&file).map(i16::to_le_bytes);
-            assert!(found.is_none() || found == Some([byte; 2]), "{length} bytes {byte}, blocks from the start on");
+            for (group, channel) in places {
+                let found = bits_word(&file, group, channel).map(i16::to_le_bytes);
+                assert!(found.is_none_or(|word| word == [byte; 2] || word == [0; 2]), "{length} bytes {byte}");
+            }
         }
     }
 }

@@ -1,6 +1,7 @@
 //! The reader by its original name.
 use crate::error::NcwError;
 use crate::opened::Opened;
+use crate::refused::{decode_refusal, Refused};
 use crate::slices::{decode_into, open};
 use std::fmt;
 use std::io::{Read, Seek, SeekFrom};
@@ -57,6 +58,11 @@ impl<R: Read + Seek> NcwReader<R> {
         samples.resize(self.samples, 0);
         decode_into(&self.file, &mut samples)?;
         Ok(samples)
+    }
+
+    /// Where [`decode_samples`](Self::decode_samples) refuses the file; None where it does not.
+    pub fn decode_refusal(&self) -> Option<Refused> {
+        decode_refusal(&self.file, 4 * self.samples)
     }
 }
 

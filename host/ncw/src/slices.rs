@@ -1,7 +1,7 @@
 //! Opening and decoding of lent bytes, into lent room.
 use crate::boundary;
 use crate::error::NcwError;
-use crate::opened::bits_beyond;
+use crate::refused::{decode_refusal, Refused};
 
 /// Opens a file in memory: how many bytes its samples take, 4 a sample.
 ///
@@ -9,7 +9,7 @@ use crate::opened::bits_beyond;
 /// assert_eq!(ncw::open(&[]).unwrap_err().number(), Some(1));
 /// ```
 pub fn open(file: &[u8]) -> Result<usize, NcwError> {
-    answered(boundary::open(file), i16::default)
+    answered(boundary::open(file), || None)
 }
 
 /// Decodes a file in memory into room that the caller lends: how many samples were written, from the first on. What lies after
@@ -32,13 +32,13 @@ pub fn decode_into(file: &[u8], samples: &mut [i32]) -> Result<usize, NcwError> 
 /// assert_eq!(room, [7; 4]);
 /// ```
 pub fn decode_bytes(file: &[u8], samples: &mut [u8]) -> Result<usize, NcwError> {
-    answered(boundary::decode(file, samples), || bits_beyond(file).unwrap_or_default())
+    answered(boundary::decode(file, samples), || decode_refusal(file, samples.len()))
 }
 
-/// The length that a call answered, or its refusal; `bits` gives the bits word that 4 carries.
-pub(crate) fn answered(answer: u64, bits: impl FnOnce() -> i16) -> Result<usize, NcwError> {
+/// The length that a call answered, or its refusal. What `located` says is asked for 4 alone, whose bits word is found by its place.
+pub(crate) fn answered(answer: u64, located: impl FnOnce() -> Option<Refused>) -> Result<usize, NcwError> {
     match answer.checked_sub(boundary::REFUSED) {
         None => Ok(answer as usize),
-        Some(number) => Err(NcwError::refused(number, bits)),
+        Some(number) => Err(NcwError::refused(number, || located().map_or(0, |refused| refused.bits()))),
     }
 }

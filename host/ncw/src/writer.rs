@@ -1,7 +1,8 @@
 //! Encoding and re-encoding by their original names, and into lent room.
 use crate::boundary;
 use crate::error::NcwError;
-use crate::opened::{bits_beyond, SAMPLES_PER_BLOCK};
+use crate::opened::SAMPLES_PER_BLOCK;
+use crate::refused::reencode_refusal;
 use crate::slices::answered;
 
 /// How the two channels of a stereo file are written.
@@ -70,7 +71,7 @@ pub fn encode_pcm(samples: &[i32], spec: PcmSpec, mode: StereoMode) -> Result<Ve
 pub fn encode_into(samples: &[i32], spec: PcmSpec, mode: StereoMode, file: &mut [u8]) -> Result<usize, NcwError> {
     let PcmSpec { channels, bits_per_sample, sample_rate } = spec;
     let samples = boundary::as_bytes(samples);
-    answered(boundary::encode(samples, channels, bits_per_sample, sample_rate, mode.number(), file), i16::default)
+    answered(boundary::encode(samples, channels, bits_per_sample, sample_rate, mode.number(), file), || None)
 }
 
 /// Encodes samples as the file `template` is encoded. Every byte is the template's, but for what the samples determine: packed values,
@@ -116,9 +117,9 @@ pub fn encode_with_template_into(
     file: &mut [u8],
 ) -> Result<usize, NcwError> {
     let PcmSpec { channels, bits_per_sample, sample_rate } = spec;
-    let samples = boundary::as_bytes(samples);
-    let answer = boundary::reencode(samples, channels, bits_per_sample, sample_rate, template, file);
-    answered(answer, || bits_beyond(template).unwrap_or_default())
+    let bytes = boundary::as_bytes(samples);
+    let answer = boundary::reencode(bytes, channels, bits_per_sample, sample_rate, template, file);
+    answered(answer, || reencode_refusal(samples, spec, template, file.len()))
 }
 
 /// The most bytes that a file of so many samples has: every block raw. Settings that are refused need no room, and data of more

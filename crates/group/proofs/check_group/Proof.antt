@@ -1,5 +1,5 @@
 -- The loop's invariant: the channels before c have passed, and `at` is where channel c's block begins.
-use mathlib.Core.Path.{_≡_, sym, _∙_}
+use mathlib.Core.Path.{_≡_, sym, ap, _∙_}
 use Prim.Native.Nat.{_-_, _≤_}
 use native.Mathlib.Omega.{arith}
 use borrow.Author.Needs.{needs}
@@ -25,8 +25,9 @@ loop-holds c = (search needs, search needs, passed-none _ _ _)
 returns : tie.Need-returns Inv-loop μ-loop
 unfolding checkGroup
 returns c =
-    let d = c .before .before .before in
-    stops (d .before .before .before .loop .inv .2) (d .check-block .ensures) BytesLeft (search needs) (omega arith)
+    let b = c .before in
+    let d = b .before .before .before in
+    stops (d .before .before .before .loop .inv .2) (d .check-block .ensures) BytesLeft (b .before .r .given .1) (omega arith) (c .at-channel .ensures)
 
 size-of-requires : tie.Need-size-of-requires Inv-loop μ-loop
 size-of-requires c κs = (header-there _ _ _ _ (sym (c .before .before .before .check-block .ensures) ∙ c .before .enum-told .given .1), search needs)
@@ -52,13 +53,13 @@ check-group-spec =
     (tie.spec
     Inv-loop
     μ-loop
-    (λ c. search needs)
     loop-holds
     (λ c. search needs)
     (λ c. search needs)
     (λ c. search needs)
     (λ c κs. search needs)
     (λ c. search needs)
+    (λ c κs. search needs)
     returns
     (λ c. search needs)
     (λ c. search needs)

@@ -1,7 +1,8 @@
 -- The definition's checks in its order; without groups only the last entry is looked at.
 use borrow.Author.Needs.{needs}
 use Rattle.format.specs.Opening.{checkTable}
-use Rattle.laws.proofs.Chain.{chain, flags, any-zero}
+use Rattle.laws.proofs.Chain.{chain, flags}
+use Rattle.laws.proofs.Reading.{order-zero}
 use Rattle.header.proofs.check_table.Statement.{statement}
 use Rattle.header.proofs.check_table.Tie as tie
 
@@ -15,7 +16,7 @@ returns-2 c = rw (← (c .before .before .before .before .before .before .groups
 
 returns-3 : tie.Need-returns-3
 unfolding checkTable
-returns-3 c = rw (← (c .before .before .before .before .before .before .groups .ensures .0)) (search (chain, flags, any-zero) depth 8)
+returns-3 c = rw (← (c .before .before .before .before .before .before .groups .ensures .0)) (search (chain, flags, order-zero) depth 8)
 
 returns-4 : tie.Need-returns-4
 unfolding checkTable
@@ -23,11 +24,8 @@ returns-4 c = rw (← (c .before .before .before .before .before .before .groups
 
 returns-5 : tie.Need-returns-5
 unfolding checkTable
-returns-5 c = rw (← (c .before .before .before .before .before .before .before .before .groups .ensures .0)) (search (chain, flags) depth 8)
-
-returns-6 : tie.Need-returns-6
-unfolding checkTable
-returns-6 c = rw (← (c .before .before .before .before .before .before .before .before .groups .ensures .0)) (search (chain, flags) depth 8)
+returns-5 c =
+    rw (← (c .before .before .before .before .before .before .before .groups .ensures .0)) (search (chain, flags, c .check-entries .ensures) depth 8)
 
 pub check-table-spec : {M : Type 1} → statement M
 check-table-spec =
@@ -41,5 +39,4 @@ check-table-spec =
     (λ c κs. search needs)
     returns-4
     (λ c κs. search needs)
-    returns-5
-    returns-6)
+    returns-5)

@@ -9,19 +9,19 @@ use Rattle.reencode_block.proofs.check_reencode_block.Tie as tie
 
 returns : tie.Need-returns
 unfolding checkTemplateBlock
-returns c = itself-refused _ _ _ _ (search chain)
+returns c = itself-refused _ _ _ _ _ (search chain)
 
 returns-2 : tie.Need-returns-2
 unfolding checkTemplateBlock
-returns-2 c = itself-refused _ _ _ _ (search (chain, flags))
+returns-2 c = itself-refused _ _ _ _ _ (search (chain, flags))
 
 returns-3 : tie.Need-returns-3
 unfolding checkTemplateBlock
-returns-3 c = itself-refused _ _ _ _ (search (chain, flags))
+returns-3 c = itself-refused _ _ _ _ _ (search (chain, flags))
 
 returns-4 : tie.Need-returns-4
 unfolding checkTemplateBlock
-returns-4 c = itself-refused _ _ _ _ (search (chain, flags))
+returns-4 c = itself-refused _ _ _ _ _ (search (chain, flags))
 
 returns-5 : tie.Need-returns-5
 returns-5 c = search (needs, other-flags)

@@ -1,5 +1,5 @@
 -- The loop's invariant: the channels before c have passed, and the next block begins at `at`.
-use mathlib.Core.Path.{_≡_, sym, _∙_}
+use mathlib.Core.Path.{_≡_, sym, ap, _∙_}
 use Prim.Native.Nat.{_-_, _≤_}
 use native.Mathlib.Omega.{arith}
 use borrow.Author.Needs.{needs}
@@ -24,8 +24,9 @@ loop-holds c = (search needs, search needs, passed-none _ _ _)
 
 returns : tie.Need-returns Inv-loop μ-loop
 returns c =
-    let d = c .before .before .before in
-    stops (d .before .before .before .before .loop .inv .2) (d .check-reencode-block .ensures) TemplateBytesLeft (search needs) (omega arith)
+    let b = c .before in
+    let d = b .before .before .before in
+    stops (d .before .before .before .before .loop .inv .2) (d .check-reencode-block .ensures) TemplateBytesLeft (b .before .r .given .1) (omega arith) (c .at-channel .ensures)
 
 size-of-requires : tie.Need-size-of-requires Inv-loop μ-loop
 size-of-requires c κs = (template-ok _ _ _ (sym (c .before .before .before .check-reencode-block .ensures) ∙ c .before .enum-told .given .1) .head, search needs)
@@ -57,6 +58,8 @@ check-channels-spec =
     (λ c. search needs)
     (λ c κs. search needs)
     (λ c. search needs)
+    (λ c. omega arith)
+    (λ c κs. search needs)
     returns
     (λ c. search needs)
     (λ c. search needs)

@@ -4,6 +4,12 @@ use Rattle.remaster_job.proofs.Stages.{report-as}
 use Rattle.remaster_job.proofs.job.Statement.{statement}
 use Rattle.remaster_job.proofs.job.Tie as tie
 
+-- what decoding keeps of it is named, since a search does not look so far
+same-length : tie.Need-same-length
+same-length c =
+    let rewritten = c .before .before .before .before .before .before .before .before .before .before .before .before in
+    search (needs, rewritten .before .before .before .before .before .decode-samples .kept)
+
 returns : tie.Need-returns
 returns c =
     let back = c .before .before .before in
@@ -23,7 +29,7 @@ job-spec =
     (λ c κs. search needs)
     (λ c κs. search needs)
     (λ c κs. search needs)
-    (λ c. search needs)
+    same-length
     (λ c. search needs)
     (λ c. search needs)
     (λ c. search needs)

@@ -16,7 +16,7 @@ returns c =
     let asked = changed .before .before .before .before in
     let filled = asked .before .before .before .before in
     let x = filled .before .before .before .before .args in
-    asked-words (λ (lent : List ℤ). saidBy (decodeOf (x .file .now) (length lent) .outcome)) (decodeInto (x .file .now)) (marked (length (x .room .now))) _ _ _ _ (x .spoiled) (x .want) _
+    asked-words (λ (lent : List ℤ). saidBy (decodeOf (x .file .now) (length lent))) (decodeInto (x .file .now)) (marked (length (x .room .now))) _ _ _ _ (x .spoiled) (x .want) _
     (filled .fill .ensures .0)
     (asked .decode-words .ensures .0)
     (asked .decode-words .ensures .1)

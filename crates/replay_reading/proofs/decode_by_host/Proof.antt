@@ -1,6 +1,8 @@
--- The room is filled, lent and judged in turn: each call is given what the one before leaves.
-use mathlib.Core.List.{List}
+-- The word is asked first; then the room is filled, lent and judged in turn, each with what the one before leaves.
 use Prim.Native.Nat.{ℕ}
+use mathlib.Core.Path.{ap₂}
+use mathlib.Core.Bool.{_&&_}
+use mathlib.Core.List.{List}
 use lib.ListN.{length}
 use borrow.Author.Needs.{needs}
 use Rattle.format.specs.Boundary.{hostDecode, hostDecodeInto}
@@ -14,12 +16,24 @@ returns c =
     let judged = c .before .before in
     let asked = judged .before .before .before .before in
     let filled = asked .before .before .before .before in
-    let x = filled .before .before .before .before .args in
-    asked-bytes (λ (lent : List ℕ). saidByHost (hostDecode (x .file .now) (length lent)) (x .want .told)) (hostDecodeInto (x .file .now)) (x .room .now) _ _ _ _ (x .spoiled) (x .want) _
+    let told = filled .before .before in
+    let x = told .before .before .before .args in
+    let same =
+    asked-bytes (λ (lent : List ℕ). saidByHost (hostDecode (x .file .now) (length lent)) (x .want)) (hostDecodeInto (x .file .now)) (x .room .now) _ _ _ _ (x .spoiled) (x .want) _
     (filled .fill-bytes .ensures)
     (asked .decode-bytes .ensures .0)
     (asked .decode-bytes .ensures .1)
     (judged .is-answered .ensures)
+    in
+    (ap₂ _&&_ (same .0) (told .host-tells .ensures), same .1)
 
 pub decode-by-host-spec : {M : Type 1} → statement M
-decode-by-host-spec = tie.close (tie.spec (λ c κs. search needs) (λ c κs. search needs) (λ c κs. search needs) (λ c. search needs) returns)
+decode-by-host-spec =
+    tie.close
+    (tie.spec
+    (λ c κs. search needs)
+    (λ c κs. search needs)
+    (λ c κs. search needs)
+    (λ c κs. search needs)
+    (λ c. search needs)
+    returns)

@@ -11,7 +11,7 @@ returns c =
     let call = c .before .before .before in
     let e = call .ncw-decode .ensures in
     let x = call .before .before .before .before .args in
-    (c .of-result .ensures ∙ ap (λ (n : ℕ). saidByHost n (x .told)) (e .0), e .1)
+    (c .of-result .ensures ∙ ap (λ (n : ℕ). saidByHost n (x .want)) (e .0), e .1)
 
 pub decode-bytes-spec : {M : Type 1} → statement M
 decode-bytes-spec = tie.close (tie.spec (λ c κs. search needs) (λ c κs. search needs) (λ c. search needs) returns)

@@ -8,7 +8,6 @@ use lib.IntN.{ℤ}
 use lib.Dec.{eqb}
 use borrow.Author.Needs.{needs}
 use Rattle.format.specs.Walking.{stepOf, stepInto, nextOf}
-use Rattle.format.specs.declared.answers.Answer.{Answer}
 use Rattle.replay_list.specs.Room.{marked}
 use Rattle.replay_list.specs.Said.{saidBy, verdictOf}
 use Rattle.replay_reading.proofs.Words.{asked-words}
@@ -26,9 +25,9 @@ returns c =
     let step = asked .step-at .ensures in
     let lent = filled .fill .ensures .0 in
     let same =
-    asked-words (λ (k : List ℤ). saidBy (stepOf (x .file .now) (x .group) (length k) .outcome)) (stepInto (x .file .now) (x .group)) (marked (length (x .room .now))) _ _ _ _ (x .spoiled) (x .want) _
+    asked-words (λ (k : List ℤ). saidBy (stepOf (x .file .now) (x .group) (length k))) (stepInto (x .file .now) (x .group)) (marked (length (x .room .now))) _ _ _ _ (x .spoiled) (x .want) _
     lent
-    (said .of-answer .ensures ∙ ap (λ (a : Answer). saidBy (a .outcome)) (step .0 .0))
+    (said .of-answer .ensures ∙ ap saidBy (step .0 .0))
     (step .0 .1)
     (changed .spoil .ensures .0)
     (compared .is-recorded .ensures)

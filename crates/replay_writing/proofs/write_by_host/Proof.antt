@@ -1,6 +1,8 @@
--- The room is filled, lent and judged in turn: each call is given what the one before leaves.
+-- The word is asked first; then the room is filled, lent and judged in turn, each with what the one before leaves.
 use borrow.Author.Needs.{needs}
 use Prim.Native.Nat.{ℕ}
+use mathlib.Core.Path.{ap₂}
+use mathlib.Core.Bool.{_&&_}
 use mathlib.Core.List.{List}
 use lib.ListN.{length}
 use Rattle.replay_list.proofs.Wholes.{asked-bytes}
@@ -13,17 +15,27 @@ returns c =
     let judged = c .before .before in
     let asked = judged .before .before .before .before in
     let filled = asked .before .before .before .before in
-    let x = filled .before .before .before .before .before .args in
+    let told = filled .before .before in
+    let x = told .before .before .before .before .args in
+    let same =
     asked-bytes
-    (λ (lent : List ℕ). hostSays (x .way) (x .p) (x .old .now) (x .samples .now) (x .want .told) (length lent))
+    (λ (lent : List ℕ). hostSays (x .way) (x .p) (x .old .now) (x .samples .now) (x .want) (length lent))
     (hostPuts (x .way) (x .p) (x .old .now) (x .samples .now))
     (x .room .now) _ _ _ _ (x .spoiled) (x .want) _
     (filled .fill-bytes .ensures)
     (asked .write-bytes .ensures .0)
     (asked .write-bytes .ensures .1)
     (judged .is-answered .ensures)
+    in
+    (ap₂ _&&_ (same .0) (told .host-tells .ensures), same .1)
 
 pub write-by-host-spec : {M : Type 1} → statement M
 write-by-host-spec =
     tie.close
-    (tie.spec (λ c κs. search needs) (λ c κs. search needs) (λ c κs. search needs) (λ c. search needs) returns)
+    (tie.spec
+    (λ c κs. search needs)
+    (λ c κs. search needs)
+    (λ c κs. search needs)
+    (λ c κs. search needs)
+    (λ c. search needs)
+    returns)

@@ -4,6 +4,7 @@ mod drawn;
 mod faulty;
 mod floats;
 mod good;
+mod places;
 mod widths;
 
 use crate::families::{filled_up, Family};
@@ -17,6 +18,7 @@ pub fn all(count: usize, seed: u64) -> Vec<Family<Vec<u8>>> {
         Family { name: "limits", parts: bytes::limits() },
         Family { name: "faults", parts: faulty::pairs() },
         Family { name: "triples", parts: faulty::triples() },
+        Family { name: "places", parts: places::all() },
         Family { name: "widths", parts: widths::all() },
         Family { name: "many", parts: widths::many() },
         Family { name: "floats", parts: floats::all() },

@@ -1,8 +1,10 @@
-//! The crate over the archive, held to the list of recorded answers (`host/recorded`): all but the steps of walks, which it has no call for, and the
-//! places of 36, which it does not tell.
+//! The crate over the archive, held to the list of recorded answers (`host/recorded`): all but the steps of walks, which it has no call for.
 #[allow(dead_code)]
 #[path = "../../../recorded/draw.rs"]
 mod draw;
+#[allow(dead_code)]
+#[path = "../../../definitions/located.rs"]
+mod located;
 #[allow(dead_code)]
 #[path = "../../../definitions/misfit.rs"]
 mod misfit;
@@ -20,22 +22,53 @@ use std::path::Path;
 
 const FILLER: u8 = 0x5A;
 
+/// What a refusal has behind its number: the value that 4 and 36 tell, and for all of them the group and the channel.
 fn ask(question: &Question) -> Option<Given> {
     let Question { file, samples, spec, first, .. } = question;
     let (channels, depth, rate) = (spec.channels, spec.bits_per_sample, spec.sample_rate);
     match question.kind {
-        16 => Some((opened(file).unwrap_or_else(|error| refused(&error)), Vec::new())),
-        17 => Some(in_room(4 * question.room, 4, |room| boundary::decode(file, room), |_| bits_of_decoding(file))),
+        16 => Some((opened(file).unwrap_or_else(|error| refused(&error, file)), Vec::new())),
+        17 => {
+            let word = |room| boundary::decode_refusal(file, room);
+            let told = |number| told(number, word(4 * question.room as u64), || bits_of_decoding(file));
+            Some(in_room(4 * question.room, 4, |room| boundary::decode(file, room), told))
+        }
         19 => {
             let call = |room: &mut [u8]| boundary::encode(samples, channels, depth, rate, *first, room);
-            Some(in_room(question.room, 1, call, |_| 0))
+            Some(in_room(question.room, 1, call, |number| place(group_of_encoding(question, number), 0)))
         }
         20 => {
             let call = |room: &mut [u8]| boundary::reencode(samples, channels, depth, rate, file, room);
-            let value = |number| if number == 4 { bits_of_reencoding(question) } else { place(question) };
-            Some(in_room(question.room, 1, call, value))
+            let word = |room| boundary::reencode_refusal(samples, channels, depth, rate, file, room);
+            let told = |number| told(number, word(question.room as u64), || bits_of_reencoding(question));
+            Some(in_room(question.room, 1, call, told))
         }
         _ => None,
+    }
+}
+
+/// By the boundary's word, which has the number too. It has no bits word: that is the crate's.
+fn told(number: u64, word: u64, bits: impl FnOnce() -> i16) -> Vec<u8> {
+    assert_eq!(word & 0xFF, number, "the number of the word");
+    let value = match number {
+        4 => bits().to_le_bytes().to_vec(),
+        36 => ((word >> 8) as u16).to_le_bytes().to_vec(),
+        _ => Vec::new(),
+    };
+    [value, place((word >> 40) as u32, (word >> 24) as u16)].concat()
+}
+
+fn place(group: u32, channel: u16) -> Vec<u8> {
+    [group as u16, channel].map(u16::to_le_bytes).concat()
+}
+
+/// No call of the archive tells it: this is the reference's.
+fn group_of_encoding(question: &Question, number: u64) -> u32 {
+    let Question { samples, spec, first, .. } = question;
+    let (channels, depth, rate) = (spec.channels, spec.bits_per_sample, spec.sample_rate);
+    match number {
+        35 => located::encoding(&words(samples), channels, depth, rate, *first).expect("35 is told").group,
+        _ => 0,
     }
 }
 
@@ -52,12 +85,14 @@ fn opened(file: &[u8]) -> Result<Vec<u8>, NcwError> {
     Ok([&[0], &first[..], &numbers.map(u32::to_le_bytes).concat(), &[float]].concat())
 }
 
-fn refused(error: &NcwError) -> Vec<u8> {
-    vec![error.number().expect("a number") as u8]
+fn refused(error: &NcwError, file: &[u8]) -> Vec<u8> {
+    let number = error.number().expect("a number");
+    let word = boundary::decode_refusal(file, u64::MAX);
+    [vec![number as u8], told(number.into(), word, i16::default)].concat()
 }
 
-/// The call with room for so many bytes; all but what it wrote has to be as it was. A count is of `size` bytes each. With 4 and 36 the list has a value.
-fn in_room(room: usize, size: usize, call: impl FnOnce(&mut [u8]) -> u64, value: impl FnOnce(u64) -> i16) -> Given {
+/// The call with room for so many bytes; all but what it wrote has to be as it was. A count is of `size` bytes each.
+fn in_room(room: usize, size: usize, call: impl FnOnce(&mut [u8]) -> u64, told: impl FnOnce(u64) -> Vec<u8>) -> Given {
     let mut lent = vec![FILLER; room];
     let answer = call(&mut lent);
     let refused = answer.checked_sub(boundary::REFUSED);
@@ -65,8 +100,7 @@ fn in_room(room: usize, size: usize, call: impl FnOnce(&mut [u8]) -> u64, value:
     assert!(lent[written..].iter().all(|byte| *byte == FILLER), "bytes that had to stay");
     lent.truncate(written);
     let told = match refused {
-        Some(number @ (4 | 36)) => [&[number as u8][..], &value(number).to_le_bytes()].concat(),
-        Some(number) => vec![number as u8],
+        Some(number) => [vec![number as u8], told(number)].concat(),
         None => [&[0][..], &((written / size) as u32).to_le_bytes(), &sum(&lent).to_le_bytes()].concat(),
     };
     (told, lent)
@@ -78,12 +112,6 @@ fn bits_of_decoding(file: &[u8]) -> i16 {
 
 fn bits_of_reencoding(question: &Question) -> i16 {
     bits(ncw::encode_pcm_with_template(&words(question.samples), question.spec, question.file).map(drop))
-}
-
-/// The boundary has the number of 36 only: its place is the reference's, as in the list, and nothing of ours is held to it here.
-fn place(question: &Question) -> i16 {
-    let found = misfit::first_misfit(&words(question.samples), question.spec.channels.into(), question.file);
-    found.expect("a misfit, since 36 is told").place as i16
 }
 
 fn bits(answer: Result<(), NcwError>) -> i16 {

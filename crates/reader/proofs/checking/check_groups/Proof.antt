@@ -1,13 +1,14 @@
 -- The loop's invariant: the groups before g have passed. A group's part lies within the file, since it opens.
-use mathlib.Core.Path.{_≡_}
+use mathlib.Core.Path.{_≡_, ap, _∙_}
 use Prim.Native.Nat.{_-_, _≤_}
 use native.Mathlib.Omega.{arith}
 use borrow.Author.Needs.{needs}
 use Rattle.format.specs.Header.{groupsOf, groupBytes}
 use Rattle.format.specs.Refusals.{inOrder}
+use Rattle.format.specs.Places.{inGroup}
 use Rattle.format.specs.Decoding.{checkGroup}
 use Rattle.format.specs.declared.refusals.Checked.the-variants.{Fine}
-use Rattle.laws.proofs.Reading.{order-more, order-none, order-ends, order-whole}
+use Rattle.laws.proofs.Reading.{order-none, order-whole, group-ends, group-more}
 use Rattle.opening.proofs.Groups.{depth-32, part-rises, part-within, part-checked}
 use Rattle.reader.proofs.checking.check_groups.Statement.{statement}
 use Rattle.reader.proofs.checking.check_groups.Tie as tie
@@ -16,7 +17,7 @@ abbrev Inv-loop : tie.InvT-loop
 Inv-loop file h format groups g₀ g =
     (groups ≡ groupsOf (h .frames))
     × (g ≤ groups)
-    × (inOrder (λ g. checkGroup h format (groupBytes file h g)) g ≡ Fine)
+    × (inOrder (λ g. inGroup g (checkGroup h format (groupBytes file h g))) g ≡ Fine)
 
 abbrev μ-loop : tie.MeasureT-loop
 μ-loop file h format groups g₀ g = groups - g
@@ -37,10 +38,14 @@ check-group-requires : tie.Need-check-group-requires Inv-loop μ-loop
 check-group-requires c κs = search depth-32
 
 returns : tie.Need-returns Inv-loop μ-loop
-returns c = search (order-ends, part-checked)
+returns c =
+    let b = c .before in
+    let l = b .before .before .before .before .before .before .before .before in
+    let x = b .before .r .given .0 in
+    group-ends _ _ (l .loop .inv .2) _ _ (l .loop .inv .0) (omega arith) (x .0) (x .1 .0) _ (search part-checked) (c .at-group .ensures)
 
 loop-again : tie.Need-loop-again Inv-loop μ-loop
-loop-again c = (search needs, search needs, search (order-more, part-checked))
+loop-again c = (search needs, search needs, group-more _ _ (c .before .before .before .before .before .before .before .loop .inv .2) (search part-checked))
 
 returns-2 : tie.Need-returns-2 Inv-loop μ-loop
 returns-2 c = order-whole _ _ _ _ (c .before .loop .inv .0) (c .before .loop .inv .2) (omega arith)
@@ -61,6 +66,7 @@ check-groups-spec =
     part-check-group-end
     check-group-requires
     (λ c. search needs)
+    (λ c κs. search needs)
     returns
     (λ c. search needs)
     (λ c. search needs)

@@ -1,24 +1,15 @@
--- The match knows the outcome, and each arm says what the definition says of it.
+-- What the outcome says, with the answer's own group and channel.
+use mathlib.Core.Path.{ap}
 use borrow.Author.Needs.{needs}
-use Rattle.replay_list.proofs.Sayings.{read-says, wrote-says, refused-says, finished-says, opened-says}
+use Rattle.replay_list.specs.Said.{saidAt}
+use Rattle.replay_list.specs.declared.answers.Said.{Said}
 use Rattle.replay_list.proofs.answers.of_answer.Statement.{statement}
 use Rattle.replay_list.proofs.answers.of_answer.Tie as tie
 
+returns : tie.Need-returns
+returns c =
+    let answer = c .before .args .answer in
+    ap (λ (said : Said). saidAt said (answer .group) (answer .channel)) (c .of-outcome .ensures)
+
 pub of-answer-spec : {M : Type 1} → statement M
-of-answer-spec =
-    tie.close
-    (tie.spec
-    (λ c. search needs)
-    (λ c κs. search needs)
-    (λ c. search needs)
-    (λ c κs. search needs)
-    (λ c. search needs)
-    (λ c κs. search needs)
-    (λ c. search needs)
-    (λ c. search needs)
-    (λ c κs. search needs)
-    (λ c. search read-says)
-    (λ c. search wrote-says)
-    (λ c. search refused-says)
-    (λ c. search finished-says)
-    (λ c. search opened-says))
+of-answer-spec = tie.close (tie.spec (λ c κs. search needs) returns)

@@ -5,4 +5,11 @@ use Rattle.replay_list.proofs.answers.of_result.Statement.{statement}
 use Rattle.replay_list.proofs.answers.of_result.Tie as tie
 
 pub of-result-spec : {M : Type 1} → statement M
-of-result-spec = tie.close (tie.spec (λ c κs. search needs) (λ c. search length-says) (λ c. search needs) (λ c. search number-says))
+of-result-spec =
+    tie.close
+    (tie.spec
+    (λ c κs. search needs)
+    (λ c. search length-says)
+    (λ c κs. search needs)
+    (λ c. search needs)
+    (λ c. search number-says))

@@ -1,15 +1,16 @@
 -- The loop's invariant: the groups before g have passed.
 use Prim.Native.Nat.{_-_, _≤_}
-use mathlib.Core.Path.{_≡_}
+use mathlib.Core.Path.{_≡_, ap, _∙_}
 use native.Mathlib.Omega.{arith}
 use borrow.Author.Needs.{needs}
 use Rattle.format.specs.Header.{groupsOf, groupBytes}
 use Rattle.format.specs.Refusals.{inOrder}
+use Rattle.format.specs.Places.{inGroup}
 use Rattle.format.specs.Encoding.{groupIn}
 use Rattle.format.specs.Reencoding.{checkReencodeGroup}
 use Rattle.format.specs.declared.refusals.Checked.the-variants.{Fine}
 use Rattle.lent_samples.specs.Lent.{lentOf}
-use Rattle.laws.proofs.Reading.{order-more, order-none, order-ends, order-whole}
+use Rattle.laws.proofs.Reading.{order-none, order-whole, group-ends, group-more}
 use Rattle.template.proofs.Groups.{some-channel, few-channels, some-bits, few-bits, entry-there, entry-next, part-rises, part-within, frames-some, frames-inside, part-checked}
 use Rattle.template.proofs.checking.check_groups.Statement.{statement}
 use Rattle.template.proofs.checking.check_groups.Tie as tie
@@ -18,7 +19,7 @@ abbrev Inv-loop : tie.InvT-loop
 Inv-loop which words bytes p t h start frames groups g₀ g =
     (groups ≡ groupsOf (h .frames))
     × (g ≤ groups)
-    × (inOrder (λ g. checkReencodeGroup (h .depth) (h .channels) (groupBytes t h g) (groupIn (h .channels) (lentOf which words bytes) g)) g ≡ Fine)
+    × (inOrder (λ g. inGroup g (checkReencodeGroup (h .depth) (h .channels) (groupBytes t h g) (groupIn (h .channels) (lentOf which words bytes) g))) g ≡ Fine)
 
 abbrev μ-loop : tie.MeasureT-loop
 μ-loop which words bytes p t h start frames groups g₀ g = groups - g
@@ -39,18 +40,32 @@ part-check-reencode-group-start : tie.Need-part-check-reencode-group-start Inv-l
 part-check-reencode-group-start c = search part-rises
 
 part-check-reencode-group-end : tie.Need-part-check-reencode-group-end Inv-loop μ-loop
-part-check-reencode-group-end c = search part-within
+part-check-reencode-group-end c =
+    let e = c .before .before in
+    let l = e .before .before in
+    let pre = l .before .before .before .before .before .before .before .pre in
+    part-within _ _ _ _ (pre .2) (pre .3) _ _ (l .before .loop .inv .0) (l .loop-test .taken) _ _ (e .before .entry-at .ensures) (e .entry-at2 .ensures)
 
 check-reencode-group-requires : tie.Need-check-reencode-group-requires Inv-loop μ-loop
 check-reencode-group-requires c κs = ((search frames-some, search needs, search frames-inside), search some-channel, search few-channels, search some-bits, search few-bits)
 
 returns : tie.Need-returns Inv-loop μ-loop
-returns c = search (order-ends, part-checked)
+returns c =
+    let b = c .before in
+    let a = b .before .before .before .before .before in
+    let e = a .before .before in
+    let t = e .before .before in
+    let pre = t .before .before .before .before .before .before .before .pre in
+    let x = b .before .r .given in
+    group-ends _ _ (t .before .loop .inv .2) _ _ (t .before .loop .inv .0) (t .loop-test .taken) (x .0 .0) (x .0 .1 .0) _
+    (part-checked _ _ _ _ (pre .2) (pre .3) _ _ (t .before .loop .inv .0) (t .loop-test .taken) (pre .1) _ (a .before .active .ensures .0)
+    _ _ (e .before .entry-at .ensures) (e .entry-at2 .ensures) _ _ (b .before .before .before .check-reencode-group .ensures) (x .1))
+    (c .at-group .ensures)
 
 loop-again : tie.Need-loop-again Inv-loop μ-loop
 loop-again c =
     let i = c .before .before .before .before .before .before .before .before .before .loop .inv in
-    (search needs, search needs, order-more _ _ (i .2) (search part-checked))
+    (search needs, search needs, group-more _ _ (i .2) (search part-checked))
 
 returns-2 : tie.Need-returns-2 Inv-loop μ-loop
 returns-2 c = order-whole _ _ _ _ (c .before .loop .inv .0) (c .before .loop .inv .2) (omega arith)
@@ -80,6 +95,7 @@ check-groups-spec =
     part-check-reencode-group-end
     check-reencode-group-requires
     (λ c. search needs)
+    (λ c κs. search needs)
     returns
     (λ c. search needs)
     (λ c. search needs)

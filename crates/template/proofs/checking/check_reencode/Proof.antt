@@ -1,29 +1,25 @@
 -- Each stage refuses, or the next is asked.
 use borrow.Author.Needs.{needs}
-use Rattle.format.specs.Reencoding.{checkReencode}
-use Rattle.laws.proofs.Chain.{settled, stages}
+use Rattle.laws.proofs.Chain.{settled}
 use Rattle.template.proofs.Groups.{some-channel}
-use Rattle.template.proofs.Stages.{template-long, groups-rest}
+use Rattle.template.proofs.Stages.{template-long, spec-refused, samples-refused, template-refused, groups-refused, file-short, file-passes}
 use Rattle.template.proofs.checking.check_reencode.Statement.{statement}
 use Rattle.template.proofs.checking.check_reencode.Tie as tie
 
 returns : tie.Need-returns
-unfolding checkReencode
-returns c = search stages
+returns c = search spec-refused
 
 check-samples-requires : tie.Need-check-samples-requires
 check-samples-requires c κs = search (some-channel, settled)
 
 returns-2 : tie.Need-returns-2
-unfolding checkReencode
-returns-2 c = search stages
+returns-2 c = search samples-refused
 
 check-template-requires : tie.Need-check-template-requires
 check-template-requires c κs = (search settled, search settled)
 
 returns-3 : tie.Need-returns-3
-unfolding checkReencode
-returns-3 c = search stages
+returns-3 c = search template-refused
 
 read-fields-requires : tie.Need-read-fields-requires
 read-fields-requires c κs = search template-long
@@ -32,7 +28,13 @@ check-groups-requires : tie.Need-check-groups-requires
 check-groups-requires c κs = (search settled, search settled, search settled, search needs)
 
 returns-4 : tie.Need-returns-4
-returns-4 c = search (stages, groups-rest)
+returns-4 c = search groups-refused
+
+returns-5 : tie.Need-returns-5
+returns-5 c = search file-short
+
+returns-6 : tie.Need-returns-6
+returns-6 c = search file-passes
 
 pub check-reencode-spec : {M : Type 1} → statement M
 check-reencode-spec =
@@ -52,4 +54,8 @@ check-reencode-spec =
     (λ c. search needs)
     read-fields-requires
     check-groups-requires
-    returns-4)
+    (λ c. search needs)
+    returns-4
+    (λ c. search needs)
+    returns-5
+    returns-6)

@@ -67,6 +67,7 @@ check-walk-spec =
     part-check-group-end
     check-group-requires
     (λ c. search needs)
+    (λ c κs. search needs)
     returns-3
     (λ c. search needs)
     (λ c κs. search needs)

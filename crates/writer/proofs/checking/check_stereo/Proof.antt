@@ -1,6 +1,6 @@
 -- Only MidSide asks: first for two channels, then for parity.
 use borrow.Author.Needs.{needs}
-use Rattle.writer.proofs.Input.{stereo-auto, stereo-direct, not-stereo, count-two, exact-two, whole-two, parity-bad, parity-good}
+use Rattle.writer.proofs.Input.{stereo-auto, stereo-direct, not-stereo, count-two, exact-two, whole-two, parity-checked}
 use Rattle.writer.proofs.checking.check_stereo.Statement.{statement}
 use Rattle.writer.proofs.checking.check_stereo.Tie as tie
 
@@ -10,20 +10,17 @@ returns c = search not-stereo
 frames-of-requires : tie.Need-frames-of-requires
 frames-of-requires c κs = (search needs, search exact-two, search count-two)
 
-parity-differs-requires : tie.Need-parity-differs-requires
-parity-differs-requires c κs = search whole-two
+check-parity-requires : tie.Need-check-parity-requires
+check-parity-requires c κs = search whole-two
 
 returns-2 : tie.Need-returns-2
-returns-2 c = search parity-bad
+returns-2 c = search stereo-auto
 
 returns-3 : tie.Need-returns-3
-returns-3 c = search stereo-auto
+returns-3 c = search stereo-direct
 
 returns-4 : tie.Need-returns-4
-returns-4 c = search stereo-direct
-
-returns-5 : tie.Need-returns-5
-returns-5 c = search parity-good
+returns-4 c = search parity-checked
 
 pub check-stereo-spec : {M : Type 1} → statement M
 check-stereo-spec =
@@ -34,8 +31,7 @@ check-stereo-spec =
     (λ c. search needs)
     returns
     frames-of-requires
-    parity-differs-requires
+    check-parity-requires
     returns-2
     returns-3
-    returns-4
-    returns-5)
+    returns-4)
