@@ -7,8 +7,8 @@ use remaster_compare::Count;
 use report::print;
 use report::print_number;
 
-// Prints how much was read or written, without the end of the line, or a refusal, of a file that opens; and says whether
-// it was no refusal.
+// Prints how much was read or written, without the end of the line, or a refusal, of a file that opens; and says
+// whether it was no refusal.
 pub fn print_done(answer: Answer) -> bool {
     let outcome = answer.outcome;
     match outcome {

@@ -18,8 +18,9 @@ ghost use Rattle.format.specs.Header.{fieldsOf, groupsOf, entry, groupBytes};
 ghost use Rattle.format.specs.Refusals.{inOrder};
 ghost use Rattle.format.specs.Places.{inGroup};
 ghost use Rattle.format.specs.Encoding.{groupIn, checkSamples};
-ghost use Rattle.format.specs.Reencoding.{checkReencoder, checkReencodeGroup, checkSame, checkBounds, checkRising, checkTemplate};
-ghost use Rattle.format.specs.Reencoding.{checkReencodeInto};
+ghost use Rattle.format.specs.Reencoding.{checkReencoder, checkReencodeGroup, checkSame, checkBounds, checkRising};
+ghost use Rattle.format.specs.Reencoding.{checkTemplate, checkReencodeInto};
+ghost use Rattle.format.specs.declared.refusals.Checked.{Checked};
 ghost use Rattle.format.specs.declared.refusals.Checked.the-variants.{Fine};
 ghost use Rattle.lent_samples.specs.Lent.{lentOf};
 
@@ -126,7 +127,8 @@ fn check_groups(
         let file = now (t .entry) in
         let old : ℕ → List ℕ = groupBytes file h in
         let new : ℕ → List ℤ = groupIn (h .channels) lent in
-        r ≡ inOrder (λ g. inGroup g (checkReencodeGroup (h .depth) (h .channels) (old g) (new g))) (groupsOf (h .frames))) ⌝ }
+        let check : ℕ → Checked = λ g. inGroup g (checkReencodeGroup (h .depth) (h .channels) (old g) (new g)) in
+        r ≡ inOrder check (groupsOf (h .frames))) ⌝ }
 {
     let start = h.start as usize;
     let frames = h.frames;
