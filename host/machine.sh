@@ -67,11 +67,3 @@ x86_rust() {
 kit() {
     printf '%s\n' "${RATTLE_HOME:-$(dirname "$(dirname "$(readlink -f "$(command -v rt)")")")}"
 }
-
-# as_rt_runs PROGRAM WORDS..: one of the programs that rt makes, with the kit's C library; on Arm in its emulator.
-as_rt_runs() {
-    local with start=()
-    with=$(kit)/on/$machine/toolchain
-    [ "$machine" = x86_64 ] || start=("$with/bin/qemu-x86_64")
-    "${start[@]}" "$with/lib/ld-linux-x86-64.so.2" --library-path "$with/lib" "$@"
-}

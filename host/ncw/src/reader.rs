@@ -60,7 +60,7 @@ impl<R: Read + Seek> NcwReader<R> {
         Ok(samples)
     }
 
-    /// Where [`decode_samples`](Self::decode_samples) refuses the file; None where it does not.
+    /// Where [`decode_samples`](Self::decode_samples) refuses the file; None where it does not, also where it found too little memory.
     pub fn decode_refusal(&self) -> Option<Refused> {
         decode_refusal(&self.file, 4 * self.samples)
     }

@@ -96,7 +96,10 @@ impl fmt::Display for Refused {
     fn fmt(&self, f: &mut fmt::Formatter<'_>) -> fmt::Result {
         let Refused { error, group, channel, place } = self;
         match (self.number(), group, channel) {
+            (Some(19 | 22 | 34 | 35 | 43 | 46), ..) => write!(f, "{error} (group {group})"),
+            (Some(4 | 20 | 21 | 44 | 45), ..) => write!(f, "{error} (group {group}, channel {channel})"),
             (Some(36), ..) => write!(f, "{error} (group {group}, channel {channel}, place {place})"),
+            // 1 and 3 are said of the header too, or of the first block: both name 0 and 0.
             (_, 0, 0) => error.fmt(f),
             _ => write!(f, "{error} (group {group}, channel {channel})"),
         }

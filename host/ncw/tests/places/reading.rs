@@ -158,6 +158,8 @@ fn the_first_of_two() {
     let mut left = with(3, 1, 2, |block| of_length(273, block));
     left.groups[2][0].bits = 40;
     assert_eq!(decoding(&left.bytes()), Some((22, 0, 1, 0)), "bytes left before the next group");
+    let refused = ncw::decode_refusal(&left.bytes(), usize::MAX).unwrap();
+    assert_eq!(refused.to_string(), "bytes left in a group (group 1)");
 }
 
 /// By the reader, which holds the bytes, and in words.

@@ -1,4 +1,4 @@
-//! The crate over the archive, held to the list of recorded answers (`host/recorded`): all but the steps of walks, which it has no call for.
+//! The crate over the archive, held to the list of recorded answers (`host/recorded`): all but the steps of walks and the group of encoding's 35, which it has no call for.
 #[allow(dead_code)]
 #[path = "../../../recorded/draw.rs"]
 mod draw;
