@@ -62,7 +62,7 @@ pub record Decodings : Type 0 where
   pub first-decides : decodesTo (stereo 32 (raw 0 (pos 9)) (raw 1 (pos 2))) (pos 9 ∷ pos 2 ∷ [])
   pub first-mid : decodesTo (stereo 32 (raw 1 (pos 9)) (raw 0 (pos 2))) (pos 11 ∷ pos 7 ∷ [])
   pub later-bit : said (checkDecode (laid 3 16 1 [] ((small ++ (changed 10 2 1 small ++ small)) ∷ []) [])) ≡ 0
-  pub three-mid : said (checkDecode (laid 3 16 1 [] ((changed 10 2 1 small ++ (small ++ small)) ∷ []) [])) ≡ 21
+  pub three-mid : saidAt (checkDecode (laid 3 16 1 [] ((changed 10 2 1 small ++ (small ++ small)) ∷ []) [])) ≡ 21 ∷ 0 ∷ 0 ∷ []
   pub other-bits : said (checkDecode (mono 16 (changed 10 2 0xFFFC small))) ≡ 0
   -- bits 0 is raw at the file's depth, whatever the base
   pub depth-8 : decodesTo (mono 8 (atDepth 8)) (negsuc 126 ∷ [])

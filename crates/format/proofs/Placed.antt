@@ -3,7 +3,7 @@ use Prim.Native.Nat.{ℕ, _+_, _*_, _^_}
 use mathlib.Core.Path.{_≡_, refl}
 use mathlib.Core.List.{List, [], _∷_, _++_, map}
 use lib.ListN.{replicate, take}
-use lib.IntN.{ℤ, pos}
+use lib.IntN.{pos}
 use Rattle.format.specs.Refusals.{nowhere}
 use Rattle.format.specs.Places.{inside, outside}
 use Rattle.format.specs.Answers.{refusedBy}
@@ -42,7 +42,9 @@ pub record Placed : Type 0 where
   pub nothing-written : map inside (30 ∷ 31 ∷ 32 ∷ 33 ∷ 37 ∷ 38 ∷ 39 ∷ 40 ∷ 41 ∷ 42 ∷ 50 ∷ []) ≡ replicate 11 NoGroup
   -- before and after
   pub groups-outside : map outside (19 ∷ 35 ∷ []) ≡ replicate 2 TheGroup
-  pub nothing-outside : map outside (1 ∷ 2 ∷ 3 ∷ 10 ∷ 18 ∷ 30 ∷ 33 ∷ 34 ∷ 37 ∷ 42 ∷ 50 ∷ []) ≡ replicate 11 NoGroup
+  pub nothing-outside : map outside (1 ∷ 2 ∷ 3 ∷ 4 ∷ 10 ∷ 11 ∷ 12 ∷ 13 ∷ 14 ∷ 15 ∷ 16 ∷ 17 ∷ 18 ∷ 20 ∷ 21 ∷ 22 ∷ []) ≡ replicate 16 NoGroup
+  pub written-outside : map outside (30 ∷ 31 ∷ 32 ∷ 33 ∷ 34 ∷ 36 ∷ 37 ∷ 38 ∷ 39 ∷ 40 ∷ 41 ∷ 42 ∷ 43 ∷ 44 ∷ 45 ∷ 46 ∷ 50 ∷ [])
+      ≡ replicate 17 NoGroup
   -- 19 names the first of two bad groups
   pub entries : openOf (laid 1 16 1025 [] (zeros ∷ take 79 zeros ∷ take 79 zeros ∷ []) []) ≡ refusedBy EntryBounds (block 1 0)
   -- opening's 3, and decoding's; a group before that passed leaves no channel behind
@@ -84,6 +86,7 @@ placed =
       nothing-written = refl;
       groups-outside = refl;
       nothing-outside = refl;
+      written-outside = refl;
       entries = refl;
       first-block = refl;
       later-block = refl;

@@ -13,7 +13,7 @@ use Rattle.format.specs.declared.refusals.Checked.the-variants.{Fine, No
 
 -- ------------------------------------------------------------------------------------------------------------------
 
--- the checks of a block do not know its channel, nor those of a group its number: what goes through them says it
+-- the checks of a block do not say its channel, nor those of a group its number: what goes through them does
 abbrev pub atGroup : ℕ → Place → Place
 atGroup g place = record { group = g; channel = place .channel }
 

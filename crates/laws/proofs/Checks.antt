@@ -124,10 +124,6 @@ module _ (p : ℕ → Bool) where
   abbrev None-below : ℕ → Type 0
   None-below n = anyBelow p n ≡ false
 
-  pub none-below : (n : ℕ) → ((k : ℕ) → k < n → p k ≡ false) → anyBelow p n ≡ false
-  unfolding anyBelow
-  none-below = all-below None-below Not-at refl (λ n e f. rw (e, f))
-
   pub found-below : (k n : ℕ) → k < n → anyBelow p n ≡ false → p k ≡ false
   unfolding anyBelow
   found-below = each-below None-below Not-at (λ n e. (or-left (anyBelow p n) (p n) e, or-right (anyBelow p n) (p n) e))

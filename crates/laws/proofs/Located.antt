@@ -20,7 +20,7 @@ use Rattle.format.specs.Decoding.{checkBlock, checkGroup, checkDecode, checkRoo
 use Rattle.format.specs.Encoding.{groupIn, checkSpec, checkSamples}
 use Rattle.format.specs.Reencoding.{checkTemplateBlock, checkReencodeBlock, checkReencodeGroup, checkSame, checkBounds, checkRising, checkTemplate}
 use Rattle.format.specs.Reencoding.{checkReencoder, checkReencode, checkReencodeInto}
-use Rattle.format.specs.Boundary.{samplesFrom, checkMode, checkBytes, checkHostReencode}
+use Rattle.format.specs.Boundary.{samplesFrom, checkBytes, checkHostReencode}
 use Rattle.format.specs.declared.refusals.Refusal.{Refusal}
 use Rattle.format.specs.declared.refusals.Refusal.the-variants.{EntryBounds}
 use Rattle.format.specs.declared.refusals.Place.{Place}
@@ -132,10 +132,6 @@ Only ns r at = (isIn (number r) ns ≡ true) × (at ≡ nowhere)
 pub nowhere-refuse : (b : Bool) (r : Refusal) → Nowhere (refuse b r)
 nowhere-refuse b r = says-refuse (λ x at. at ≡ nowhere) b r refl
 
-infixr 20 _neither_
-pub _neither_ : {a b : Checked} → Nowhere a → Nowhere b → Nowhere (a then b)
-_neither_ p q = _and-says_ {P = λ r at. at ≡ nowhere} p q
-
 -- what holds of a refusal that names nothing, whichever it is
 pub says-nowhere : (P : Refusal → Place → Type 0) (k : Checked) → Nowhere k → ((r : Refusal) → P r nowhere) → Says P k
 says-nowhere P k none p r at e = subst (P r) (sym (none r at e)) (p r)
@@ -236,28 +232,11 @@ reencode-block-says depth r xs =
     let all : List ℕ = 1 ∷ 3 ∷ 44 ∷ 45 ∷ 4 ∷ 36 ∷ [] in
     only-among (1 ∷ 3 ∷ 44 ∷ 45 ∷ 4 ∷ []) _ (template-block-says depth r) all refl and-says only all _ _ refl
 
-pub mode-says : (word : ℕ) → Says (Only (38 ∷ [])) (checkMode word)
-unfolding checkMode isIn
-mode-says word = only (38 ∷ []) _ _ refl
-
 pub bytes-say : (b : List ℕ) → Says (Only (39 ∷ [])) (checkBytes b)
 unfolding checkBytes isIn
 bytes-say b = only (39 ∷ []) _ _ refl
 
 -- so they name nothing
-module _ (h : Fields) where
-  pub fields-nowhere : Nowhere (checkFields h)
-  fields-nowhere = only-nowhere _ _ (fields-say h)
-
-  pub offsets-nowhere : (n : ℕ) → Nowhere (checkOffsets h n)
-  offsets-nowhere n = only-nowhere _ _ (offsets-say h n)
-
-  pub first-nowhere : (s : List ℕ) → Nowhere (checkFirst s h)
-  first-nowhere s = only-nowhere _ _ (first-says h s)
-
-  pub block-nowhere : (f : SampleFormat) (c : ℕ) (r : List ℕ) → Nowhere (checkBlock h f c r)
-  block-nowhere f c r = only-nowhere _ _ (block-says h f c r)
-
 pub room-nowhere : (s : List ℕ) (room : ℕ) → Nowhere (checkRoom s room)
 room-nowhere s room = only-nowhere _ _ (room-says s room)
 
@@ -270,14 +249,8 @@ samples-nowhere p s = only-nowhere _ _ (samples-say p s)
 pub template-nowhere : (p : PcmSpec) (s : List ℤ) (t : List ℕ) → Nowhere (checkTemplate p s t)
 template-nowhere p s t = only-nowhere _ _ (template-says p s t)
 
-pub template-block-nowhere : (depth : ℕ) (r : List ℕ) → Nowhere (checkTemplateBlock depth r)
-template-block-nowhere depth r = only-nowhere _ _ (template-block-says depth r)
-
 pub reencode-block-nowhere : (depth : ℕ) (r : List ℕ) (xs : List ℤ) → Nowhere (checkReencodeBlock depth r xs)
 reencode-block-nowhere depth r xs = only-nowhere _ _ (reencode-block-says depth r xs)
-
-pub mode-nowhere : (word : ℕ) → Nowhere (checkMode word)
-mode-nowhere word = only-nowhere _ _ (mode-says word)
 
 pub bytes-nowhere : (b : List ℕ) → Nowhere (checkBytes b)
 bytes-nowhere b = only-nowhere _ _ (bytes-say b)

@@ -5,10 +5,9 @@ use mathlib.Core.List.{List}
 use native.Mathlib.Omega.{arith}
 use lib.ListN.{length}
 use lib.IntN.{ℤ}
-use borrow.Author.Tests.{lt-ltb, le-ltb}
 use Rattle.format.specs.Lists.{over}
 use Rattle.format.specs.Header.{fieldsOf, groupsOf, groupBytes}
-use Rattle.format.specs.Refusals.{nowhere, refuse, _then_, inOrder}
+use Rattle.format.specs.Refusals.{nowhere, _then_, inOrder}
 use Rattle.format.specs.Places.{inGroup}
 use Rattle.format.specs.Answers.{answeredBy, refusedBy}
 use Rattle.format.specs.Opening.{formatOf, checkOpen}

@@ -1,4 +1,4 @@
-// Every refusal, found from the header, the table and the block headers alone.
+// Every refusal, found from the header, the table, the block headers and the room alone.
 use format::Checked;
 use format::Fields;
 use format::NOWHERE;

@@ -6,7 +6,6 @@ use mathlib.Core.Bool.{Bool, true, false, not}
 use native.Mathlib.Omega.{arith}
 use lib.IntN.{ℤ}
 use lib.ListN.{length}
-use borrow.Author.Tests.{not-false}
 use Rattle.format.specs.Lists.{joined}
 use Rattle.format.specs.Header.{groupsOf}
 use Rattle.format.specs.Units.{active}

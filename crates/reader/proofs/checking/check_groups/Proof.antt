@@ -1,5 +1,5 @@
 -- The loop's invariant: the groups before g have passed. A group's part lies within the file, since it opens.
-use mathlib.Core.Path.{_≡_, ap, _∙_}
+use mathlib.Core.Path.{_≡_}
 use Prim.Native.Nat.{_-_, _≤_}
 use native.Mathlib.Omega.{arith}
 use borrow.Author.Needs.{needs}

@@ -1,6 +1,4 @@
 -- The definition's two questions, in its order.
-use mathlib.Core.Path.{_≡_, sym, _∙_}
-use mathlib.Core.Bool.{Bool, true, false, cond}
 use borrow.Author.Needs.{needs}
 use Rattle.format.specs.Places.{inside}
 use Rattle.format.proofs.places.Named.inside.Statement.{statement}

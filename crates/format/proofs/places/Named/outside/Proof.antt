@@ -4,7 +4,6 @@ use mathlib.Core.Bool.{Bool, true, false, _||_, cond}
 use lib.Dec.{eqb}
 use Rattle.format.specs.Lists.{isIn}
 use Rattle.format.specs.Places.{outside}
-use Rattle.format.specs.declared.places.Named.{Named}
 use Rattle.format.specs.declared.places.Named.the-variants.{NoGroup, TheGroup}
 use Rattle.format.proofs.places.Named.outside.Statement.{statement}
 use Rattle.format.proofs.places.Named.outside.Tie as tie
