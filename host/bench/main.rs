@@ -1,7 +1,8 @@
-//! The Rust original and ours, timed in turns on the same files or samples: bench [encode|reencode] [--short]
+//! The Rust original and ours, timed in turns on the same files or samples: bench [encode|reencode|frames] [--short]
 mod clock;
 mod decoding;
 mod encoding;
+mod few_frames;
 #[allow(dead_code)]
 #[path = "../definitions/files.rs"]
 mod files;
@@ -64,7 +65,9 @@ fn main() {
         ["encode", "--short"] | ["--short", "encode"] => ENCODING.run(&SHORT),
         ["reencode"] => REENCODING.run(&ALL),
         ["reencode", "--short"] | ["--short", "reencode"] => REENCODING.run(&SHORT),
-        _ => stop("usage: bench [encode|reencode] [--short]"),
+        ["frames"] => few_frames::run(&ALL[1..]),
+        ["frames", "--short"] | ["--short", "frames"] => few_frames::run(&SHORT),
+        _ => stop("usage: bench [encode|reencode|frames] [--short]"),
     };
 }
 

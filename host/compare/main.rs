@@ -23,9 +23,12 @@ mod families;
 #[allow(dead_code)]
 #[path = "../definitions/faults.rs"]
 mod faults;
+#[path = "../definitions/few_frames.rs"]
+mod few_frames;
 #[allow(dead_code)]
 #[path = "../definitions/files.rs"]
 mod files;
+mod frames;
 #[cfg(fuzzed)]
 #[path = "../fuzz/mod.rs"]
 mod fuzz;
@@ -70,6 +73,8 @@ usage: compare [COUNT] [SEED] | compare --file FILE | compare --input FAMILY IND
        compare encode --samples FILE CHANNELS DEPTH RATE MODE
        compare reencode [COUNT] [SEED] | compare reencode --input FAMILY INDEX [SEED]
        compare reencode --call SAMPLES TEMPLATE CHANNELS DEPTH RATE
+       compare frames [COUNT] [SEED] | compare frames --input FAMILY INDEX [SEED]
+       compare frames --range FILE FIRST COUNT
        compare limits";
 
 fn main() {
@@ -93,6 +98,10 @@ fn main() {
             template: bytes_of(template),
         }),
         ["reencode", ref words @ ..] => asked::<reencoding::Call>(words),
+        ["frames", "--range", path, first, count] => {
+            one(&frames::Call { file: bytes_of(path), first: number(first), count: number(count) })
+        }
+        ["frames", ref words @ ..] => asked::<frames::Call>(words),
         ["limits"] => limits::run(),
         ref words => asked::<Vec<u8>>(words),
     };

@@ -1,6 +1,7 @@
 //! The cases as antt text: for each a test, and the theorem that it comes out true.
 use crate::asking::{Answer, Question};
 use crate::located::{self, Refused};
+use crate::ranges::{ranges, Range};
 use ncw::{PcmSpec, StereoMode};
 use std::fs;
 use std::path::Path;
@@ -86,6 +87,7 @@ use lib.IntN.{ℤ, pos, negsuc}
 use Rattle.format.specs.declared.settings.StereoMode.the-variants.{Auto, Direct, MidSide}
 use Rattle.asked.proofs.Tests.{octets, quads, spec, everything}
 use Rattle.asked.proofs.Tests.{opens, opensNot, decodes, decodesNot, encodes, encodesNot, reencodes, reencodesNot}
+use Rattle.asked.proofs.Tests.{reads, readsNot, host-reads, host-readsNot}
 use Rattle.asked.proofs.Tests.{host-opens, host-opensNot, host-decodes, host-decodesNot, host-encodes, host-encodesNot, host-reencodes, host-reencodesNot}
 ";
 
@@ -96,14 +98,14 @@ const MOST_AT_HOST: usize = 100;
 /// A module of cases, each a theorem: that its test comes out `true`, or, to look closer, `false`.
 pub fn module(cases: &[Numbered], outcome: bool) -> String {
     let theorem = |(k, question, answer): &Numbered| {
-        let test = test(question, answer, k % ONE_AT_HOST == 0);
+        let test = test(question, answer, &ranges(*k, question), k % ONE_AT_HOST == 0);
         let proof = format!("pub case-{k} : test-{k} ≡ {outcome}\nunfolding everything\ncase-{k} = refl\n");
         format!("\nabbrev test-{k} : Bool\ntest-{k} =\n{test}\n\n{proof}")
     };
     cases.iter().fold(String::from(HEAD), |text, case| text + &theorem(case))
 }
 
-fn test(question: &Question, answer: &Answer, host_too: bool) -> String {
+fn test(question: &Question, answer: &Answer, ranges: &[Range], host_too: bool) -> String {
     let (name, call) = asked(question);
     let (end, plain, host) = match answer {
         Answer::Refused(number, word) => {
@@ -115,7 +117,21 @@ fn test(question: &Question, answer: &Answer, host_too: bool) -> String {
     };
     let host =
         if host_too && few(question, answer) { format!(" && host-{name}{end} {host} {call}") } else { String::new() };
-    format!("{}{}    {name}{end} {plain} {call}{host}", inputs(question), expected(question, answer))
+    let frames = ranges.iter().map(|range| few_frames(range, host_too)).collect::<String>();
+    format!("{}{}    {name}{end} {plain} {call}{host}{frames}", inputs(question), expected(question, answer))
+}
+
+/// What is read of a file by the reference.
+fn few_frames((first, count, said): &Range, host_too: bool) -> String {
+    let call = format!("{first} {count} s");
+    let (end, plain, host) = match said {
+        Ok(samples) => ("", format!("({})", quads(samples)), format!("({})", quads(samples))),
+        Err(Refused { number, told, group, channel }) => {
+            ("Not", format!("{number} {} {group} {channel}", integer(*told as i16)), number.to_string())
+        }
+    };
+    let host = if host_too { format!(" && host-reads{end} {host} {call}") } else { String::new() };
+    format!(" && reads{end} {plain} {call}{host}")
 }
 
 /// What the reference says, which has to be the Rust's number and word: it tells the group and the channel too.

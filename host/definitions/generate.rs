@@ -2,6 +2,8 @@
 mod antt;
 mod asking;
 mod faults;
+#[allow(dead_code)]
+mod few_frames;
 mod files;
 mod inputs;
 #[allow(dead_code)]
@@ -11,6 +13,7 @@ mod misfit;
 mod orders;
 mod placed;
 mod random;
+mod ranges;
 mod samples;
 
 use antt::Numbered;
@@ -104,19 +107,24 @@ fn count(cases: &[Case]) {
         let refused = of_kind().filter(|(_, answer)| matches!(answer, Answer::Refused(..)));
         println!("{kind}: {} cases, {} of them refused", of_kind().count(), refused.count());
     }
-    let times: Vec<String> = numbers(cases).iter().map(|(number, times)| format!("{number} x {times}")).collect();
-    println!("refused, number x times: {}", times.join(", "));
+    println!("refused, number x times: {}", times(cases.iter().filter_map(refused)));
+    let ranges: Vec<_> = numbered(cases).into_iter().flat_map(|(k, question, _)| ranges::ranges(k, question)).collect();
+    let refused = ranges.iter().filter_map(|(_, _, said)| said.as_ref().err()).map(|refused| refused.number);
+    println!("a few frames: {} ranges; refused, number x times: {}", ranges.len(), times(refused));
     println!("bits words read: {} of the 65 from -32 to 32", bits_words(cases).len());
 }
 
-fn numbers(cases: &[Case]) -> BTreeMap<u32, usize> {
-    let mut numbers = BTreeMap::new();
-    for (_, answer) in cases {
-        if let Answer::Refused(number, _) = answer {
-            *numbers.entry(*number).or_insert(0) += 1;
-        }
+fn refused((_, answer): &Case) -> Option<u32> {
+    match answer {
+        Answer::Refused(number, _) => Some(*number),
+        _ => None,
     }
-    numbers
+}
+
+fn times(numbers: impl Iterator<Item = u32>) -> String {
+    let mut times = BTreeMap::new();
+    numbers.for_each(|number| *times.entry(number).or_insert(0) += 1);
+    times.iter().map(|(number, times)| format!("{number} x {times}")).collect::<Vec<_>>().join(", ")
 }
 
 fn bits_words(cases: &[Case]) -> BTreeSet<i16> {

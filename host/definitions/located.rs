@@ -83,7 +83,7 @@ impl Place {
 // ---- the file
 
 /// A number of so many bytes, the lowest first.
-fn number(bytes: &[u8], at: u64, count: usize) -> u64 {
+pub fn number(bytes: &[u8], at: u64, count: usize) -> u64 {
     bytes[at as usize..][..count].iter().rev().fold(0, |number, byte| 256 * number + u64::from(*byte))
 }
 

@@ -3,7 +3,7 @@ use super::edge::Edge;
 use crate::boundary;
 use crate::input::Input;
 use crate::lent::REFUSED;
-use crate::{encoding, reencoding};
+use crate::{encoding, frames, reencoding};
 
 pub trait Fuzzed: Input {
     /// None where there are too few bytes.
@@ -31,6 +31,27 @@ impl Fuzzed for Vec<u8> {
         let answer = boundary::open(file);
         boundary::decode(file, samples.room(if answer < REFUSED { answer as usize } else { 0 }));
         boundary::decode_refusal(file, u64::MAX);
+    }
+}
+
+/// The first frame and the count in 4 bytes each, the file.
+impl Fuzzed for frames::Call {
+    fn from_bytes(bytes: &[u8]) -> Option<Self> {
+        let (head, file) = bytes.split_first_chunk::<8>()?;
+        Some(frames::Call { file: file.to_vec(), first: four(head, 0), count: four(head, 4) })
+    }
+
+    fn to_bytes(&self) -> Option<Vec<u8>> {
+        Some([&self.first.to_le_bytes()[..], &self.count.to_le_bytes(), &self.file].concat())
+    }
+
+    /// With all the room there is, then with just enough.
+    fn ask_at(&self, [file, samples, _]: &mut [Edge; 3]) {
+        let file = file.of(&self.file);
+        let answer = boundary::read_frames(file, self.first, self.count, samples.room(usize::MAX));
+        if answer < REFUSED {
+            boundary::read_frames(file, self.first, self.count, samples.room(answer as usize));
+        }
     }
 }
 

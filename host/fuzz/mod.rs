@@ -4,7 +4,7 @@ mod edge;
 mod seeds;
 
 use crate::input::Tally;
-use crate::{encoding, reencoding, report, stop};
+use crate::{encoding, frames, reencoding, report, stop};
 use bytes::Fuzzed;
 use std::ffi::{c_char, c_int};
 use std::process::{abort, exit};
@@ -20,7 +20,8 @@ pub extern "C" fn LLVMFuzzerInitialize(_: *const c_int, _: *const *const *const 
         Ok("reading") => begin::<Vec<u8>>(),
         Ok("encode") => begin::<encoding::Call>(),
         Ok("reencode") => begin::<reencoding::Call>(),
-        _ => stop("FUZZ is to be reading, encode or reencode."),
+        Ok("frames") => begin::<frames::Call>(),
+        _ => stop("FUZZ is to be reading, encode, reencode or frames."),
     }
     0
 }

@@ -1,6 +1,7 @@
 //! What the list says of a question: the original's answer, with what document 01 adds (38, 39, 50, done), and the places of document 02.
 use crate::asking::{ask, Answer, Question as Asking};
 use crate::faults::put;
+use crate::few_frames::read_frames;
 use crate::located::{self, Refused};
 use crate::reread::{Given, Question};
 use ncw::{PcmSpec, StereoMode};
@@ -130,6 +131,11 @@ pub fn stepping(file: &[u8], group: u32, room: usize) -> Told {
     if numbers[7] <= group.into() {
         return Told::Done;
     }
+    group_of(file, numbers, group).map_or_else(|told| told, |samples| in_room(&samples, room))
+}
+
+/// One group of a file that opens: its samples, or what it is refused by.
+fn group_of(file: &[u8], numbers: [u64; 9], group: u32) -> Result<Vec<i32>, Told> {
     let before = 512 * numbers[0] as usize;
     let answer = ask(&Asking::Decode(behind_a_good_one(file, numbers, group as usize)));
     let step = match &answer {
@@ -139,7 +145,55 @@ pub fn stepping(file: &[u8], group: u32, room: usize) -> Told {
     if let Answer::Samples(whole) = ask(&Asking::Decode(file.to_vec())) {
         assert!(step == whole.chunks(before).nth(group as usize), "a step that is no part of the whole decode");
     }
-    refused(&answer, located::step(file, group)).unwrap_or_else(|| in_room(step.expect("samples"), room))
+    refused(&answer, located::step(file, group)).map_or_else(|| Ok(step.expect("samples").to_vec()), Err)
+}
+
+/// By the original's groups, and so by the reference.
+pub fn reading_frames(file: &[u8], first: u32, count: u32, room: usize) -> Told {
+    let told = by_groups(file, first, count, room);
+    let of_reference = match read_frames(file, first, count, room as u64) {
+        Ok(samples) => in_room(&samples, room),
+        Err(refused) => Told::Refused(refused),
+    };
+    assert!(
+        told == of_reference,
+        "{} by the original's groups, {} by the reference",
+        told.short(),
+        of_reference.short()
+    );
+    told
+}
+
+/// The groups in which a frame is asked for, one by one as steps read them, and of their samples those of these frames.
+fn by_groups(file: &[u8], first: u32, count: u32, room: usize) -> Told {
+    let numbers = match opening(file) {
+        Told::Opened(numbers) => numbers,
+        told => return told,
+    };
+    let (frames, asked) = (numbers[3], u64::from(first)..u64::from(first) + u64::from(count));
+    if asked.end > frames {
+        return nowhere(51);
+    }
+    let touched = if count == 0 { 0..0 } else { first / 512..1 + (asked.end - 1) as u32 / 512 };
+    let read: Result<Vec<_>, _> = touched.map(|group| group_of(file, numbers, group)).collect();
+    match read {
+        Err(told) => told,
+        Ok(groups) => in_room(&cut(file, numbers[0] as usize, first, count, &groups.concat()), room),
+    }
+}
+
+/// The samples of the frames, out of those of the groups touched. Wherever the original decodes the whole file they are a part of that.
+fn cut(file: &[u8], channels: usize, first: u32, count: u32, groups: &[i32]) -> Vec<i32> {
+    let [first, count] = [first, count].map(|number| number as usize);
+    let samples: Vec<i32> = groups.iter().skip(first % 512 * channels).take(count * channels).copied().collect();
+    assert_eq!(samples.len(), count * channels);
+    if let Answer::Samples(whole) = ask(&Asking::Decode(file.to_vec())) {
+        assert!(
+            samples == whole[first * channels..][..count * channels],
+            "frames that are no part of the whole decode"
+        );
+    }
+    samples
 }
 
 fn behind_a_good_one(file: &[u8], numbers: [u64; 9], group: usize) -> Vec<u8> {
@@ -202,7 +256,7 @@ fn written(
 
 /// A question of the list asked again.
 pub fn to(question: &Question) -> Given {
-    let Question { kind, file, samples, spec, first, room } = question;
+    let Question { kind, file, samples, spec, first, count, room } = question;
     let ((told, bytes), next) = match kind {
         16 => ((opening(file), Vec::new()), Vec::new()),
         17 => (reading(file, *room), Vec::new()),
@@ -212,7 +266,8 @@ pub fn to(question: &Question) -> Given {
             ((told, Vec::new()), next.to_le_bytes().to_vec())
         }
         19 => (writing(*spec, *first, samples, *room), Vec::new()),
-        _ => (rewriting(*spec, samples, file, *room), Vec::new()),
+        20 => (rewriting(*spec, samples, file, *room), Vec::new()),
+        _ => ((reading_frames(file, *first, *count, *room), Vec::new()), Vec::new()),
     };
     ([told.bytes(), next].concat(), bytes)
 }

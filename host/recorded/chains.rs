@@ -29,6 +29,7 @@ pub fn all(tape: &mut Tape) {
         kinds: Deck::new(&[0, 0, 1, 1, 2, 3, 3, 3, 3, 4, 5, 6]),
         bits_words: Deck::new(&(-32..=32).collect::<Vec<i16>>()),
         faults: Deck::new(&[IN_TEMPLATES, IN_FILES_TO_DECODE].concat()),
+        ranges: Random::new(SEED + 1),
     };
     (0..ENCODED).for_each(|k| chains.encoded(k, tape));
     (0..LAID_OUT).for_each(|k| chains.laid_out(k, tape));
@@ -45,6 +46,8 @@ struct Chains {
     kinds: Deck<u8>,
     bits_words: Deck<i16>,
     faults: Deck<Fault>,
+    /// A draw of its own, which the others do not depend on.
+    ranges: Random,
 }
 
 impl Chains {
@@ -174,12 +177,18 @@ impl Chains {
         tape.file(&good);
         tape.settings(PcmSpec { channels, bits_per_sample: depth, sample_rate: laid_out.rate });
         self.read(tape);
+        if k % 4 == 0 {
+            self.frames(tape);
+        }
         if tape.decode(samples_in(&good)) {
             tape.keep_read();
             self.rewrite_own(tape);
         }
         let rewrite = tame || self.random.once_in(6);
         self.change(&good, &laid_out.places(), rewrite, tape);
+        if k % 4 == 2 {
+            self.frames(tape);
+        }
     }
 
     fn file(&mut self, channels: u16, depth: u16, frames: u32, tame: bool, float: bool) -> File {
@@ -237,6 +246,20 @@ impl Chains {
         }
         let again = self.random.below(at as usize + 1) as u32;
         tape.step(again, self.room(512 * channels));
+    }
+
+    /// Any frames, now and then one past the end, in exact room and in some other.
+    fn frames(&mut self, tape: &mut Tape) {
+        let (channels, frames) = match opening(tape.file_bytes()) {
+            Told::Opened(numbers) => (numbers[0] as usize, numbers[3] as usize),
+            _ => (0, 0),
+        };
+        let r = &mut self.ranges;
+        let first = r.below(frames + 1);
+        let count = r.below(frames - first + 2);
+        let exact = channels * count;
+        let room = r.pick(&[exact, exact, exact + 3, exact.saturating_sub(1)]);
+        tape.frames(first as u32, count as u32, room.min(MOST_SAMPLES));
     }
 
     /// Other room than that: one less, one more, none, a few more.

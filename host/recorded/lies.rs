@@ -1,5 +1,5 @@
 //! Answers that are false on purpose, and rooms that are changed on purpose: a program that finds none of them finds nothing.
-use crate::answers::{nowhere, Told};
+use crate::answers::{nowhere, reading_frames, Told};
 use crate::blocks::{filled, raw};
 use crate::encodings::spec;
 use crate::faults::put;
@@ -27,6 +27,8 @@ pub fn all(tape: &mut Tape) {
     of_reencoding(tape);
     tape.case("false on purpose: the place of 36");
     of_places(tape);
+    tape.case("false on purpose: reading frames");
+    of_frames(tape, &file, &damaged);
 }
 
 /// Each of the nine fields, and the number.
@@ -145,6 +147,32 @@ fn of_stepping(tape: &mut Tape, file: &[u8], damaged: &[u8]) {
     lies(tape, &[wrong_bits, another_number, accepted, |_, next| *next = 2], question);
     lies(tape, &WRONG_PLACES, question);
     spoils(tape, &[0, 3], question);
+}
+
+/// Frames 511 and 512: four samples, in room for six. Other frames in their place, then a damaged group, and a range past the end.
+fn of_frames(tape: &mut Tape, file: &[u8], damaged: &[u8]) {
+    let question = |tape: &mut Tape| tape.frames(511, 2, 6) as u32;
+    tape.file(file);
+    lies(
+        tape,
+        &[wrong_count, wrong_sum, refused, |told, _| *told = nowhere(50), |told, _| *told = nowhere(51)],
+        question,
+    );
+    for (first, count) in [(510, 2), (0, 2), (511, 1), (510, 3)] {
+        let others = reading_frames(file, first, count, 6);
+        tape.lie(move |told, _| *told = others);
+        question(tape);
+    }
+    spoils(tape, &[0, 3, 4, 5], question);
+    tape.file(damaged);
+    lies(tape, &[wrong_bits, another_number, accepted], question);
+    lies(tape, &WRONG_PLACES, question);
+    spoils(tape, &[0, 5], question);
+    let past = |tape: &mut Tape| tape.frames(512, 2, 0) as u32;
+    lies(tape, &[accepted, another_number, |told, _| *told = nowhere(50)], past);
+    lies(tape, &WRONG_PLACES, past);
+    let short = |tape: &mut Tape| tape.frames(511, 1, 1) as u32;
+    lies(tape, &[accepted, |told, _| *told = nowhere(51)], short);
 }
 
 /// One sample gives 272 bytes.

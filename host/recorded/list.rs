@@ -7,6 +7,7 @@ use crate::lies;
 use crate::misfits;
 use crate::pairs;
 use crate::places;
+use crate::ranges;
 use crate::tape::{samples_in, Tape};
 use crate::templates::{self, Reencoding};
 use crate::traps;
@@ -25,6 +26,7 @@ pub fn whole() -> Tape {
     lies::all(&mut tape);
     misfits::all().iter().for_each(|case| rewrite(&mut tape, case));
     places::all(&mut tape);
+    ranges::all(&mut tape);
     tape
 }
 
@@ -33,6 +35,7 @@ fn read(tape: &mut Tape, case: &Case) {
     tape.file(&case.file);
     tape.open();
     tape.decode(case.room);
+    ranges::of_any(tape);
 }
 
 /// From the first group on, the last step once more, and the whole file.

@@ -32,6 +32,7 @@ fn pairs(spoils: &[Spoil]) -> Vec<(usize, usize, [Spoil; 2])> {
     seconds.map(|(first, second)| (first, second, [spoils[first], spoils[second]])).collect()
 }
 
+/// Of a group's checks also by its last frame, without room.
 fn of_reading(tape: &mut Tape, name: &str, spoils: &[Spoil], good: &File, group: usize, channel: usize) {
     for (first, second, both) in pairs(spoils) {
         tape.case(format!("order: {name}, {first} and {second}"));
@@ -39,6 +40,9 @@ fn of_reading(tape: &mut Tape, name: &str, spoils: &[Spoil], good: &File, group:
         tape.open();
         tape.decode(3);
         tape.step(group as u32, 1);
+        if group > 0 {
+            tape.frames(good.frames.min(512 * group as u32 + 512) - 1, 1, 0);
+        }
     }
 }
 

@@ -13,6 +13,9 @@ mod encodings;
 #[path = "../definitions/faults.rs"]
 mod faults;
 #[allow(dead_code)]
+#[path = "../definitions/few_frames.rs"]
+mod few_frames;
+#[allow(dead_code)]
 #[path = "../definitions/files.rs"]
 mod files;
 #[path = "../definitions/inputs.rs"]
@@ -36,6 +39,7 @@ mod pairs;
 mod places;
 #[path = "../definitions/random.rs"]
 mod random;
+mod ranges;
 mod recording;
 mod reread;
 #[path = "../definitions/samples.rs"]

@@ -1,5 +1,5 @@
 //! The list in the making: what stands in its two spaces, its items so far, and the answers in it.
-use crate::answers::{opening, reading, rewriting, stepping, writing, Told};
+use crate::answers::{opening, reading, reading_frames, rewriting, stepping, writing, Told};
 use crate::draw::{runs, Draw, Samples};
 use crate::tally::{Asked, Tally};
 use ncw::PcmSpec;
@@ -227,6 +227,14 @@ impl Tape {
         next
     }
 
+    /// So many frames, with room for so many samples.
+    pub fn frames(&mut self, first: u32, count: u32, room: usize) -> bool {
+        assert!(room <= MOST_SAMPLES);
+        let told = reading_frames(self.file_bytes(), first, count, room);
+        let head = [&first.to_le_bytes()[..], &count.to_le_bytes(), &(room as u16).to_le_bytes()].concat();
+        self.answer(Asked::Frames, &head, told, None, 4 * room)
+    }
+
     /// With room for so many bytes.
     pub fn encode(&mut self, mode: u32, room: usize) -> bool {
         assert!(room <= SPACE);
@@ -284,7 +292,7 @@ impl Tape {
     }
 
     fn note(&mut self, asked: Asked, said: &Told, on_purpose: bool) {
-        let word = ["open", "decode", "step", "encode", "re-encode"][asked as usize];
+        let word = ["open", "decode", "step", "encode", "re-encode", "frames"][asked as usize];
         let mark = if on_purpose { " (on purpose)" } else { "" };
         let case = self.cases.last_mut().expect("a case");
         case.answers.push(format!("{word} {}{mark}", said.short()));

@@ -1,8 +1,9 @@
--- The starred cases, the numbers of refusal, the place that 36 tells, where refusals are, and the laws of depths and
--- counts.
+-- The starred cases, the numbers of refusal, the place that 36 tells, where refusals are, a few frames, and the laws of
+-- depths and counts.
 pub mod Made
 pub mod Starred
 pub mod Numbered
 pub mod Misfits
 pub mod Placed
+pub mod Ranged
 pub mod UnitLaws

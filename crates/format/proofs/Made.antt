@@ -18,18 +18,19 @@ use Rattle.format.specs.Fit.{misfit, checkFit}
 use Rattle.format.specs.Opening.{checkFields, checkOffsets, badEntry, checkTable, checkFirst, formatOf, checkOpen, headerOf, openOf}
 use Rattle.format.specs.Decoding.{isFloat, checkBlock, checkGroup, coded, channelsOf, woven, groupSamples, checkDecode, decodedOf, checkRoom, decodeOf, decodeInto}
 use Rattle.format.specs.Walking.{checkStep, stepSamples, hasGroup, checkStepInto, checkWalk, stepOf, nextOf, stepInto}
+use Rattle.format.specs.FewFrames.{touched, checkFrames, checkFramesInto, frameAt, framesAt, readFramesOf, readFramesInto}
 use Rattle.format.specs.Encoding.{channel, unwoven, padded, paddedChannels, differences, leastFrom, leastWidth, firstValue, blockBytes, encodedBlock, blocks, mid, side, midSide, equalParity, parity, takesMid, encodedGroup, groupIn, encodedGroupAt, headerBytes, tableOf, assembled, encodedFile, checkSpec, checkEncoder, checkSamples, isMidSide, checkStereo, checkSize, checkEncode, checkEncodeInto, encodeOf, encodeInto}
 use Rattle.format.specs.Reencoding.{newValues, valuesFor, baseFor, reencodedBlock, checkTemplateBlock, checkReencodeBlock, activeIn, checkReencodeGroup, reencodedGroup, checkSame, checkBounds, checkRising, checkTemplate, checkReencoder, checkReencode, checkReencodeInto, reencodedFile, reencodeOf, reencodeInto}
-use Rattle.format.specs.Boundary.{samplesFrom, sampleBytes, isMode, modeOf, checkMode, checkBytes, hostOpen, hostDecode, hostDecodeInto, checkHostEncode, hostEncode, hostEncodeInto, checkHostReencode, hostReencode, hostReencodeInto, hostDecodeRefusal, hostReencodeRefusal}
+use Rattle.format.specs.Boundary.{samplesFrom, sampleBytes, isMode, modeOf, checkMode, checkBytes, hostOpen, hostDecode, hostDecodeInto, hostReadFrames, hostReadFramesInto, checkHostEncode, hostEncode, hostEncodeInto, checkHostReencode, hostReencode, hostReencodeInto, hostDecodeRefusal, hostReencodeRefusal}
 use Rattle.format.specs.declared.refusals.Place.{Place}
 use Rattle.format.specs.declared.refusals.Checked.{Checked}
 use Rattle.format.specs.declared.refusals.Checked.the-variants.{Fine, No}
 use Rattle.format.specs.declared.settings.PcmSpec.{PcmSpec}
 use Rattle.format.specs.declared.settings.StereoMode.the-variants.{Auto}
 
--- every definition of document 01, so that a table unfolds them all by one word
+-- every definition of document 01, and of the requests of document 02, so that a table unfolds them all by one word
 unfoldable pub document-01 : Unit {0}
-unfolding tab joined from over lastOr pairwise every firstNot anyBelow same isIn num digits le numAt signature isSignature fieldsOf groupsOf entry groupBytes codesIn runOf values packing coding widthOf isBeyond rebuilt blockMark isBlock baseOf bitsOf midBit floatBit codingOf sizeOf decoded samplesOf fromBlock floatOf patternOf left right leftRight within depthWord isDepth depthOf framesIn checkFramed refuse _then_ inOrder located outside inside misfit checkFit checkFields checkOffsets badEntry checkTable checkFirst formatOf checkOpen headerOf openOf isFloat checkBlock checkGroup coded channelsOf woven active groupSamples checkDecode decodedOf checkRoom decodeOf decodeInto checkStep stepSamples hasGroup checkStepInto checkWalk stepOf nextOf stepInto channel unwoven padded paddedChannels differences leastFrom leastWidth firstValue blockBytes encodedBlock blocks mid side midSide equalParity parity takesMid encodedGroup groupIn encodedGroupAt headerBytes tableOf assembled encodedFile checkSpec checkEncoder checkSamples isMidSide checkStereo checkSize checkEncode checkEncodeInto encodeOf encodeInto newValues valuesFor baseFor reencodedBlock checkTemplateBlock checkReencodeBlock activeIn checkReencodeGroup reencodedGroup checkSame checkBounds checkRising checkTemplate checkReencoder checkReencode checkReencodeInto reencodedFile reencodeOf reencodeInto samplesFrom sampleBytes isMode modeOf checkMode checkBytes hostOpen hostDecode hostDecodeInto checkHostEncode hostEncode hostEncodeInto checkHostReencode hostReencode hostReencodeInto hostDecodeRefusal hostReencodeRefusal Ieee.isNan Ieee.ofBits Ieee.toBits Ieee.add Ieee.sub Ieee.sum Ieee.round Ieee.units Ieee.odd Ieee.span Ieee.climb Ieee.size Ieee.neg
+unfolding tab joined from over lastOr pairwise every firstNot anyBelow same isIn num digits le numAt signature isSignature fieldsOf groupsOf entry groupBytes codesIn runOf values packing coding widthOf isBeyond rebuilt blockMark isBlock baseOf bitsOf midBit floatBit codingOf sizeOf decoded samplesOf fromBlock floatOf patternOf left right leftRight within depthWord isDepth depthOf framesIn checkFramed refuse _then_ inOrder located outside inside misfit checkFit checkFields checkOffsets badEntry checkTable checkFirst formatOf checkOpen headerOf openOf isFloat checkBlock checkGroup coded channelsOf woven active groupSamples checkDecode decodedOf checkRoom decodeOf decodeInto checkStep stepSamples hasGroup checkStepInto checkWalk stepOf nextOf stepInto touched checkFrames checkFramesInto frameAt framesAt readFramesOf readFramesInto channel unwoven padded paddedChannels differences leastFrom leastWidth firstValue blockBytes encodedBlock blocks mid side midSide equalParity parity takesMid encodedGroup groupIn encodedGroupAt headerBytes tableOf assembled encodedFile checkSpec checkEncoder checkSamples isMidSide checkStereo checkSize checkEncode checkEncodeInto encodeOf encodeInto newValues valuesFor baseFor reencodedBlock checkTemplateBlock checkReencodeBlock activeIn checkReencodeGroup reencodedGroup checkSame checkBounds checkRising checkTemplate checkReencoder checkReencode checkReencodeInto reencodedFile reencodeOf reencodeInto samplesFrom sampleBytes isMode modeOf checkMode checkBytes hostOpen hostDecode hostDecodeInto hostReadFrames hostReadFramesInto checkHostEncode hostEncode hostEncodeInto checkHostReencode hostReencode hostReencodeInto hostDecodeRefusal hostReencodeRefusal Ieee.isNan Ieee.ofBits Ieee.toBits Ieee.add Ieee.sub Ieee.sum Ieee.round Ieee.units Ieee.odd Ieee.span Ieee.climb Ieee.size Ieee.neg
 document-01 = tt
 
 -- ---- the number that checks give, 0 where nothing is refused
@@ -64,6 +65,20 @@ laid channels depth frames before groups after =
 -- the file with N in the n bytes from i
 abbrev pub changed : ℕ → ℕ → ℕ → List ℕ → List ℕ
 changed i n N s = take i s ++ (le n N ++ drop (i + n) s)
+
+-- 513 frames in two groups
+abbrev pub two : ℕ → List ℕ → List ℕ → List ℕ
+two channels a b = laid channels 16 513 [] (a ∷ b ∷ []) []
+
+-- a block of zeros, as differences at width 2; one without its mark; one that is mid/side
+abbrev pub zeros : List ℕ
+zeros = blockBytes (pos 0) (pos 2) 0 (replicate 128 0)
+
+abbrev pub unmarked : List ℕ
+unmarked = changed 0 1 0 zeros
+
+abbrev pub sided : List ℕ
+sided = changed 10 2 1 zeros
 
 -- mono, 16 bits, the one sample 5
 abbrev pub five : List ℕ

@@ -17,7 +17,7 @@ use Rattle.format.specs.declared.refusals.Refusal.the-variants.{WidthToo
 use Rattle.format.specs.declared.refusals.Refusal.the-variants.{SampleBytes, TemplateDiffers, TemplateBounds}
 use Rattle.format.specs.declared.refusals.Refusal.the-variants.{TemplateOffsets, ShortGroup, TemplateBits}
 use Rattle.format.specs.declared.refusals.Refusal.the-variants.{TemplateFlags, TemplateBytesLeft}
-use Rattle.format.specs.declared.refusals.Refusal.the-variants.{OutputTooShort}
+use Rattle.format.specs.declared.refusals.Refusal.the-variants.{OutputTooShort, RangePastEnd}
 use Rattle.format.specs.declared.units.Framed.the-variants.{Incomplete, TooMany}
 use Rattle.format.proofs.Made.{document-01, said}
 
@@ -92,6 +92,8 @@ pub record Numbered : Type 0 where
   pub template-bytes-left : number TemplateBytesLeft ≡ 46
   -- lent output too short
   pub output-too-short : number OutputTooShort ≡ 50
+  -- document 02, L1: first + count over the frames
+  pub range-past-end : number RangePastEnd ≡ 51
   -- ---- and what is refused by them: over 4,294,967,295 frames, data over as many bytes
   pub frames-most : said (checkFrameCount 4294967295) ≡ 0
   pub frames-over : said (checkFrameCount 4294967296) ≡ 33
@@ -144,6 +146,7 @@ numbered =
       template-flags = refl;
       template-bytes-left = refl;
       output-too-short = refl;
+      range-past-end = refl;
       frames-most = refl;
       frames-over = refl;
       data-most = refl;

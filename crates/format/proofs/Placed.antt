@@ -1,7 +1,7 @@
 -- Document 02, L6: what each number names, row by row, and where refusals are, each by computation.
-use Prim.Native.Nat.{ℕ, _+_, _*_, _^_}
+use Prim.Native.Nat.{_+_, _*_, _^_}
 use mathlib.Core.Path.{_≡_, refl}
-use mathlib.Core.List.{List, [], _∷_, _++_, map}
+use mathlib.Core.List.{[], _∷_, _++_, map}
 use lib.ListN.{replicate, take}
 use lib.IntN.{pos}
 use Rattle.format.specs.Refusals.{nowhere}
@@ -10,7 +10,7 @@ use Rattle.format.specs.Answers.{refusedBy}
 use Rattle.format.specs.Opening.{openOf}
 use Rattle.format.specs.Decoding.{decodeOf}
 use Rattle.format.specs.Walking.{stepOf}
-use Rattle.format.specs.Encoding.{blockBytes, encodeOf}
+use Rattle.format.specs.Encoding.{encodeOf}
 use Rattle.format.specs.Reencoding.{reencodeOf}
 use Rattle.format.specs.Boundary.{hostDecodeRefusal, hostReencodeRefusal}
 use Rattle.format.specs.declared.places.Named.the-variants.{NoGroup, TheGroup, TheBlock}
@@ -18,33 +18,19 @@ use Rattle.format.specs.declared.refusals.Refusal.the-variants.{BlockSig
 use Rattle.format.specs.declared.refusals.Refusal.the-variants.{NotStereo, ParityDiffers, WidthTooSmall}
 use Rattle.format.specs.declared.refusals.Refusal.the-variants.{ShortGroup, TemplateBytesLeft, OutputTooShort}
 use Rattle.format.specs.declared.settings.StereoMode.the-variants.{MidSide}
-use Rattle.format.proofs.Made.{document-01, pcm, laid, changed, block}
-
--- 513 frames in two groups
-abbrev two : ℕ → List ℕ → List ℕ → List ℕ
-two channels a b = laid channels 16 513 [] (a ∷ b ∷ []) []
-
--- a block of zeros, as differences at width 2; one without its mark; one that is mid/side
-abbrev zeros : List ℕ
-zeros = blockBytes (pos 0) (pos 2) 0 (replicate 128 0)
-
-abbrev unmarked : List ℕ
-unmarked = changed 0 1 0 zeros
-
-abbrev sided : List ℕ
-sided = changed 10 2 1 zeros
+use Rattle.format.proofs.Made.{document-01, pcm, laid, block, two, zeros, unmarked, sided}
 
 pub record Placed : Type 0 where
   -- while a group is read
   pub groups : map inside (19 ∷ 22 ∷ 34 ∷ 35 ∷ 43 ∷ 46 ∷ []) ≡ replicate 6 TheGroup
   pub blocks : map inside (1 ∷ 3 ∷ 4 ∷ 20 ∷ 21 ∷ 36 ∷ 44 ∷ 45 ∷ []) ≡ replicate 8 TheBlock
   pub nothing : map inside (2 ∷ 10 ∷ 11 ∷ 12 ∷ 13 ∷ 14 ∷ 15 ∷ 16 ∷ 17 ∷ 18 ∷ []) ≡ replicate 10 NoGroup
-  pub nothing-written : map inside (30 ∷ 31 ∷ 32 ∷ 33 ∷ 37 ∷ 38 ∷ 39 ∷ 40 ∷ 41 ∷ 42 ∷ 50 ∷ []) ≡ replicate 11 NoGroup
+  pub nothing-written : map inside (30 ∷ 31 ∷ 32 ∷ 33 ∷ 37 ∷ 38 ∷ 39 ∷ 40 ∷ 41 ∷ 42 ∷ 50 ∷ 51 ∷ []) ≡ replicate 12 NoGroup
   -- before and after
   pub groups-outside : map outside (19 ∷ 35 ∷ []) ≡ replicate 2 TheGroup
   pub nothing-outside : map outside (1 ∷ 2 ∷ 3 ∷ 4 ∷ 10 ∷ 11 ∷ 12 ∷ 13 ∷ 14 ∷ 15 ∷ 16 ∷ 17 ∷ 18 ∷ 20 ∷ 21 ∷ 22 ∷ []) ≡ replicate 16 NoGroup
-  pub written-outside : map outside (30 ∷ 31 ∷ 32 ∷ 33 ∷ 34 ∷ 36 ∷ 37 ∷ 38 ∷ 39 ∷ 40 ∷ 41 ∷ 42 ∷ 43 ∷ 44 ∷ 45 ∷ 46 ∷ 50 ∷ [])
-      ≡ replicate 17 NoGroup
+  pub written-outside : map outside (30 ∷ 31 ∷ 32 ∷ 33 ∷ 34 ∷ 36 ∷ 37 ∷ 38 ∷ 39 ∷ 40 ∷ 41 ∷ 42 ∷ 43 ∷ 44 ∷ 45 ∷ 46 ∷ 50 ∷ 51 ∷ [])
+      ≡ replicate 18 NoGroup
   -- 19 names the first of two bad groups
   pub entries : openOf (laid 1 16 1025 [] (zeros ∷ take 79 zeros ∷ take 79 zeros ∷ []) []) ≡ refusedBy EntryBounds (block 1 0)
   -- opening's 3, and decoding's; a group before that passed leaves no channel behind

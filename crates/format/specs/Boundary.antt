@@ -12,6 +12,7 @@ use Rattle.format.specs.Refusals.{number, told, refuse, _then_}
 use Rattle.format.specs.Answers.{answered, filled}
 use Rattle.format.specs.Opening.{openOf}
 use Rattle.format.specs.Decoding.{checkDecode, decodedOf, checkRoom, decodeOf}
+use Rattle.format.specs.FewFrames.{checkFramesInto, framesAt, readFramesOf}
 use Rattle.format.specs.Encoding.{encodedFile, checkEncodeInto}
 use Rattle.format.specs.Reencoding.{reencodedFile, checkReencodeInto}
 use Rattle.format.specs.declared.refusals.Refusal.the-variants.{UnknownMode, SampleBytes}
@@ -19,6 +20,7 @@ use Rattle.format.specs.declared.refusals.Told.{Told}
 use Rattle.format.specs.declared.refusals.Told.the-variants.{Nothing, Bits, Misfit}
 use Rattle.format.specs.declared.refusals.Checked.{Checked}
 use Rattle.format.specs.declared.refusals.Checked.the-variants.{Fine, No}
+use Rattle.format.specs.declared.units.Frames.{Frames}
 use Rattle.format.specs.declared.settings.PcmSpec.{PcmSpec}
 use Rattle.format.specs.declared.settings.StereoMode.{StereoMode}
 use Rattle.format.specs.declared.settings.StereoMode.the-variants.{Auto, Direct, MidSide}
@@ -67,6 +69,14 @@ hostDecode file room = result (decodeOf file (room / 4) .outcome)
 unfoldable pub hostDecodeInto : List ℕ → List ℕ → List ℕ
 hostDecodeInto file lent =
     filled (checkDecode file then checkRoom file (length lent / 4)) (sampleBytes (decodedOf file)) lent
+
+-- document 02, L1: room as for decoding
+unfoldable pub hostReadFrames : List ℕ → Frames → Frames → ℕ → ℕ
+hostReadFrames file first count room = result (readFramesOf file first count (room / 4) .outcome)
+
+unfoldable pub hostReadFramesInto : List ℕ → Frames → Frames → List ℕ → List ℕ
+hostReadFramesInto file first count lent =
+    filled (checkFramesInto file first count (length lent / 4)) (sampleBytes (framesAt file first count)) lent
 
 -- ---- encoding: 38 then 39 before all other checks
 

@@ -61,9 +61,13 @@ channelsOf fields format group =
     let chans = coded (fields .depth) (fields .channels) group in
     cond (midBit group) (leftRight format chans) chans
 
+-- frame i of the channels: a sample of each
+abbrev pub frameOf : List (List ℤ) → ℕ → List ℤ
+frameOf chans i = map (λ (xs : List ℤ). getD xs i (pos 0)) chans
+
 -- the first n frames of the channels, interleaved
 unfoldable pub woven : ℕ → List (List ℤ) → List ℤ
-woven n chans = joined (λ i. map (λ (xs : List ℤ). getD xs i (pos 0)) chans) n
+woven n chans = joined (frameOf chans) n
 
 unfoldable pub groupSamples : Fields → SampleFormat → ℕ → List ℕ → List ℤ
 groupSamples fields format g group = woven (active (fields .frames) g) (channelsOf fields format group)

@@ -19,6 +19,8 @@ pub mod Decoding
 pub mod Walking
 pub mod Encoding
 pub mod Reencoding
+-- document 02, L1
+pub mod FewFrames
 -- "What must change shape": the host boundary
 pub mod Boundary
 -- "What the promises are held to"

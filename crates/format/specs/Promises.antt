@@ -8,10 +8,13 @@ use lib.IntN.{ℤ}
 use Rattle.format.specs.Opening.{openOf}
 use Rattle.format.specs.Decoding.{decodeOf, decodeInto}
 use Rattle.format.specs.Walking.{stepOf, nextOf, stepInto}
+use Rattle.format.specs.FewFrames.{readFramesOf, readFramesInto}
 use Rattle.format.specs.Encoding.{encodeOf, encodeInto}
 use Rattle.format.specs.Reencoding.{reencodeOf, reencodeInto}
-use Rattle.format.specs.Boundary.{hostOpen, hostDecode, hostDecodeInto, hostEncode, hostEncodeInto}
+use Rattle.format.specs.Boundary.{hostOpen, hostDecode, hostDecodeInto, hostReadFrames, hostReadFramesInto}
+use Rattle.format.specs.Boundary.{hostEncode, hostEncodeInto}
 use Rattle.format.specs.Boundary.{hostReencode, hostReencodeInto, hostDecodeRefusal, hostReencodeRefusal}
+use Rattle.format.specs.declared.units.Frames.{Frames}
 use Rattle.format.specs.declared.settings.PcmSpec.{PcmSpec}
 use Rattle.format.specs.declared.settings.StereoMode.{StereoMode}
 use Rattle.format.specs.declared.answers.Answer.{Answer}
@@ -34,6 +37,11 @@ Steps file g lent answer after = (answer ≡ stepOf file g (length lent)) × (af
 abbrev pub Advances : List ℕ → ℕ → List ℤ → Answer → List ℤ → ℕ → Type 0
 Advances file g lent answer after next = Steps file g lent answer after × (next ≡ nextOf file g (length lent))
 
+-- reading so many of its frames, from the frame `first` on
+abbrev pub ReadsFrames : List ℕ → Frames → Frames → List ℤ → Answer → List ℤ → Type 0
+ReadsFrames file first count lent answer after =
+    (answer ≡ readFramesOf file first count (length lent)) × (after ≡ readFramesInto file first count lent)
+
 -- encoding the samples with the settings
 abbrev pub Encodes : PcmSpec → StereoMode → List ℤ → List ℕ → Answer → List ℕ → Type 0
 Encodes spec mode samples lent answer after =
@@ -51,6 +59,10 @@ HostOpens file answer = answer ≡ hostOpen file
 
 abbrev pub HostDecodes : List ℕ → List ℕ → ℕ → List ℕ → Type 0
 HostDecodes file lent answer after = (answer ≡ hostDecode file (length lent)) × (after ≡ hostDecodeInto file lent)
+
+abbrev pub HostReadsFrames : List ℕ → Frames → Frames → List ℕ → ℕ → List ℕ → Type 0
+HostReadsFrames file first count lent answer after =
+    (answer ≡ hostReadFrames file first count (length lent)) × (after ≡ hostReadFramesInto file first count lent)
 
 abbrev pub HostEncodes : List ℕ → PcmSpec → ℕ → List ℕ → ℕ → List ℕ → Type 0
 HostEncodes bytes spec word lent answer after =

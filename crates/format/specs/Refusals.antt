@@ -13,7 +13,7 @@ use Rattle.format.specs.declared.refusals.Refusal.the-variants.{WidthToo
 use Rattle.format.specs.declared.refusals.Refusal.the-variants.{SampleBytes, TemplateDiffers, TemplateBounds}
 use Rattle.format.specs.declared.refusals.Refusal.the-variants.{TemplateOffsets, ShortGroup, TemplateBits}
 use Rattle.format.specs.declared.refusals.Refusal.the-variants.{TemplateFlags, TemplateBytesLeft}
-use Rattle.format.specs.declared.refusals.Refusal.the-variants.{OutputTooShort}
+use Rattle.format.specs.declared.refusals.Refusal.the-variants.{OutputTooShort, RangePastEnd}
 use Rattle.format.specs.declared.refusals.Told.{Told}
 use Rattle.format.specs.declared.refusals.Told.the-variants.{Nothing, Bits, Misfit}
 use Rattle.format.specs.declared.refusals.Place.{Place}
@@ -59,6 +59,7 @@ number TemplateBits = 44
 number TemplateFlags = 45
 number TemplateBytesLeft = 46
 number OutputTooShort = 50
+number RangePastEnd = 51  -- document 02, L1
 
 -- what it returns besides: 4 the bits word; 36, by document 02's L2, the place of the value or difference
 abbrev pub told : Refusal → Told
@@ -97,6 +98,7 @@ told TemplateBits = Nothing
 told TemplateFlags = Nothing
 told TemplateBytesLeft = Nothing
 told OutputTooShort = Nothing
+told RangePastEnd = Nothing
 
 -- the place of a refusal that concerns no group: document 02, L6, has group and channel both 0
 abbrev pub nowhere : Place

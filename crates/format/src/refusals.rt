@@ -40,6 +40,7 @@ pub enum Refusal {
     TemplateFlags,
     TemplateBytesLeft,
     OutputTooShort,
+    RangePastEnd,
 }
 
 // What a refusal tells besides its number.
@@ -90,7 +91,7 @@ pub enum Checked {
 }
 
 impl Refusal {
-    // Document 01's number for it.
+    // The documents' number for it.
     pub fn number(self) -> u32
         ensures { λ r. ⌜ r ≡ number self ⌝ }
     {
@@ -130,6 +131,7 @@ impl Refusal {
             Refusal::TemplateFlags => 45, // template: flags above 1
             Refusal::TemplateBytesLeft => 46, // bytes left in a template group
             Refusal::OutputTooShort => 50, // lent output too short
+            Refusal::RangePastEnd => 51, // first frame + count over the file's frames
         }
     }
 

@@ -3,7 +3,7 @@
 use Prim.Native.Nat.{ℕ, suc, _+_, _-_, _*_, _/_, _≤_, _<_, min}
 use native.Mathlib.Decide.{decLe}
 use mathlib.Core.Path.{_≡_, refl, sym, ap, ap₂, _∙_}
-use mathlib.Core.List.{List, [], _∷_, map}
+use mathlib.Core.List.{List, [], _∷_}
 use native.Mathlib.Omega.{arith}
 use native.Mathlib.Nat.{mul-div-right, mul-comm, mul-sub, mul-assoc, mul-le-mul-left, mul-suc}
 use lib.ListN.{length, getD, take, drop, length-append, length-replicate, length-take, length-drop, length-map, List·getD-append, List·getD-map}
@@ -13,7 +13,7 @@ use lib.Pow.{pow-pos}
 use Rattle.format.specs.Lists.{joined, from, lastOr}
 use Rattle.format.specs.Header.{groupsOf}
 use Rattle.format.specs.Units.{active}
-use Rattle.format.specs.Decoding.{woven}
+use Rattle.format.specs.Decoding.{frameOf, woven}
 use Rattle.format.specs.Encoding.{channel, unwoven, padded, paddedChannels, groupIn}
 use Rattle.format.specs.declared.units.Frames.{Frames}
 use Rattle.laws.proofs.Parts.{length-tab, getD-tab, joined-cong, joined-from, joined-at}
@@ -104,10 +104,6 @@ module _ (n k : ℕ) (some : 1 ≤ n) (s : List ℤ) (l : length s ≡ n * k) wh
         }
 
 -- ---- channels whose first k samples are those of s, woven
--- frame i of the channels
-abbrev pub frameOf : List (List ℤ) → ℕ → List ℤ
-frameOf chans i = map (λ (ch : List ℤ). getD ch i (pos 0)) chans
-
 pub frame-length : (chans : List (List ℤ)) (i : ℕ) → length (frameOf chans i) ≡ length chans
 frame-length chans i = length-map chans (λ (ch : List ℤ). getD ch i (pos 0))
 

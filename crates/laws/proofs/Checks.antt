@@ -1,9 +1,10 @@
 -- Checks in order: all pass exactly where each passes, and the first that refuses is the refusal.
-use Prim.Native.Nat.{ℕ, zero, suc, _<_, _≤_}
+use Prim.Native.Nat.{ℕ, zero, suc, _+_, _-_, _<_, _≤_}
 use mathlib.Core.Path.{_≡_, refl, sym, ap, ap₂, _∙_, subst}
 use mathlib.Core.Bool.{Bool, true, false, _||_}
 use mathlib.Core.Logic.{⊎-elim}
 use native.Mathlib.Omega.{arith}
+use native.Mathlib.Nat.{add-zero, add-suc}
 use lib.Dec.{ltb, eqb}
 use borrow.Author.Tests.{ltb-false, eq-eqb}
 use Rattle.format.specs.Lists.{anyBelow}
@@ -40,6 +41,16 @@ _then-same_ {a} {b} {c} {d} e f = ap (λ (x : Checked). x then c) e ∙ by b f
     by : (x : Checked) → (x ≡ Fine → c ≡ d) → (x then c) ≡ (x then d)
     by Fine g = g refl
     by (No r at) g = refl
+
+pub then-fine : (a : Checked) → (a then Fine) ≡ a
+unfolding _then_
+then-fine Fine = refl
+then-fine (No r at) = refl
+
+pub then-assoc : (a b c : Checked) → ((a then b) then c) ≡ (a then b then c)
+unfolding _then_
+then-assoc Fine b c = refl
+then-assoc (No r at) b c = refl
 
 pub first-fine : (a b : Checked) → (a then b) ≡ Fine → a ≡ Fine
 unfolding _then_
@@ -166,6 +177,25 @@ pub order-cong : (p q : ℕ → Checked) (n : ℕ) → ((k : ℕ) → k < n → 
 unfolding inOrder
 order-cong p q zero h = refl
 order-cong p q (suc n) h = ap₂ (λ (a b : Checked). a then b) (order-cong p q n (λ k l. h k (omega arith))) (h n (omega arith))
+
+-- the first m of them, and those behind them
+pub order-add : (check : ℕ → Checked) (m n : ℕ) → inOrder check (m + n) ≡ (inOrder check m then inOrder (λ k. check (m + k)) n)
+unfolding inOrder
+order-add check m zero = ap (inOrder check) (add-zero m) ∙ sym (then-fine (inOrder check m))
+order-add check m (suc n) =
+    ap (inOrder check) (add-suc m n) ∙ ap (λ (c : Checked). c then check (m + n)) (order-add check m n)
+    ∙ then-assoc (inOrder check m) (inOrder (λ k. check (m + k)) n) (check (m + n))
+
+-- some of them twice: the first m, and then those from a on, which is no later
+pub order-twice : (check : ℕ → Checked) (a m n : ℕ) → a ≤ m → m ≤ a + n → (inOrder check m then inOrder (λ k. check (a + k)) n) ≡ inOrder check (a + n)
+unfolding _then_
+order-twice check a m n l q = by (inOrder check m) refl
+  where
+    by : (c : Checked) → inOrder check m ≡ c → (c then inOrder (λ k. check (a + k)) n) ≡ inOrder check (a + n)
+    by Fine e = sym (order-add check a n ∙ (in-order check a (λ k b. order-fine check k m (omega arith) e) and-then refl))
+    by (No r at) e =
+        let d : a + n ≡ m + (a + n - m) = omega arith in
+        sym (ap (inOrder check) d ∙ order-add check m (a + n - m) ∙ ap (λ (c : Checked). c then inOrder (λ k. check (m + k)) (a + n - m)) e)
 
 -- tests that are the same below n
 pub any-cong : (p q : ℕ → Bool) (n : ℕ) → ((k : ℕ) → k < n → p k ≡ q k) → anyBelow p n ≡ anyBelow q n

@@ -58,7 +58,7 @@ unfolding leftRight
 length-two f chans = refl
 
 module _ (h : Fields) (f : SampleFormat) (bs : List ℕ) (some : 1 ≤ h .channels) (fine : checkGroup h f bs ≡ Fine) where
-  channels-count : length (channelsOf h f bs) ≡ h .channels
+  pub channels-count : length (channelsOf h f bs) ≡ h .channels
   unfolding channelsOf coded
   channels-count = by (midBit bs) refl
     where

@@ -28,6 +28,8 @@ pub mod Lengths
 pub mod Written
 pub mod Over
 pub mod Reading
+-- a few frames: which groups they touch, how long they are, and that all of them are the whole decode
+pub mod FewFrames
 -- a template that passes: its blocks, groups and file, and that the new ones are as long
 pub mod Templates
 pub mod TemplateFiles

@@ -13,7 +13,8 @@ use Rattle.format.specs.Lists.{every, isIn}
 use Rattle.format.specs.Numbers.{Below}
 use Rattle.format.specs.Header.{fieldsOf, groupsOf, groupBytes}
 use Rattle.format.specs.Refusals.{number, nowhere, refuse, _then_, inOrder}
-use Rattle.format.specs.Places.{atGroup, located, inGroup}
+use Rattle.format.specs.Blocks.{fromBlock}
+use Rattle.format.specs.Places.{atGroup, atChannel, located, inGroup}
 use Rattle.format.specs.Fit.{checkFit}
 use Rattle.format.specs.Opening.{checkFields, checkOffsets, badEntry, checkTable, checkFirst, checkOpen, formatOf}
 use Rattle.format.specs.Decoding.{checkBlock, checkGroup, checkDecode, checkRoom}
@@ -22,7 +23,7 @@ use Rattle.format.specs.Reencoding.{checkTemplateBlock, checkReencodeBlock, che
 use Rattle.format.specs.Reencoding.{checkReencoder, checkReencode, checkReencodeInto}
 use Rattle.format.specs.Boundary.{samplesFrom, checkBytes, checkHostReencode}
 use Rattle.format.specs.declared.refusals.Refusal.{Refusal}
-use Rattle.format.specs.declared.refusals.Refusal.the-variants.{EntryBounds}
+use Rattle.format.specs.declared.refusals.Refusal.the-variants.{EntryBounds, BytesLeft}
 use Rattle.format.specs.declared.refusals.Place.{Place}
 use Rattle.format.specs.declared.refusals.Checked.{Checked}
 use Rattle.format.specs.declared.refusals.Checked.the-variants.{Fine, No}
@@ -275,6 +276,35 @@ module _ (P : Refusal → Place → Type 0) (s : List ℕ) (test : ℕ → Bool)
       and-says from (18 ∷ []) _ (only (18 ∷ []) _ _ refl) refl
       and-says entries)
       and-says from (3 ∷ []) _ (first-says h s) refl
+
+-- ---- the numbers that reading says of an opening and of a group pass a test which each of these passes
+abbrev pub groupNumbers : List ℕ
+groupNumbers = 22 ∷ 1 ∷ 3 ∷ 20 ∷ 21 ∷ 4 ∷ []
+
+abbrev pub Passes : (ℕ → Bool) → Refusal → Place → Type 0
+Passes test r at = test (number r) ≡ true
+
+module _ (test : ℕ → Bool) where
+  pub passes-unsaid : (x : Refusal) (k : Checked) → Says (Passes test) k → test (number x) ≡ false → Unsaid x k
+  passes-unsaid x k says out at e = never (sym (says x at e) ∙ out)
+
+  -- of checks in order, each in its place
+  pub each-passes : (check : ℕ → Checked) (move : ℕ → Place → Place) (n : ℕ) → ((i : ℕ) → Says (Passes test) (check i)) → Says (Passes test) (inOrder (λ i. located (move i) (check i)) n)
+  each-passes check move n each = says-order (Passes test) _ n (λ i l. says-located (Passes test) (Passes test) (move i) (check i) (λ r at e. e) (each i))
+
+  pub open-passes : every test (19 ∷ openNumbers) ≡ true → (s : List ℕ) → Says (Passes test) (checkOpen s)
+  unfolding every
+  open-passes all s =
+      let h = fieldsOf s in
+      open-says (Passes test) s test (and-right (test 19) _ all) (λ r e. e)
+      (each-passes (λ g. refuse (badEntry s h g) EntryBounds) atGroup (groupsOf (h .frames)) (λ g. says-refuse (Passes test) _ EntryBounds (and-left (test 19) _ all)))
+
+  pub group-passes : every test groupNumbers ≡ true → (h : Fields) (f : SampleFormat) (group : List ℕ) → Says (Passes test) (checkGroup h f group)
+  unfolding checkGroup every
+  group-passes all h f group =
+      each-passes (λ c. checkBlock h f c (fromBlock (h .depth) group c)) atChannel (h .channels)
+      (λ c. only-says (1 ∷ 3 ∷ 20 ∷ 21 ∷ 4 ∷ []) _ (block-says h f c _) (Passes test) test (and-right (test 22) _ all) (λ r e. e))
+      and-says says-refuse (Passes test) _ BytesLeft (and-left (test 22) _ all)
 
 -- ---- numbers of a header: a file has fewer than 2 ^ 16 channels, and at most 2 ^ 23 groups
 module _ (s : List ℕ) (byte : Below 256 s) where

@@ -4,11 +4,11 @@ use mathlib.Core.Path.{_≡_, refl, sym, ap, ap₂, _∙_, subst}
 use mathlib.Core.List.{List, [], _∷_, _++_, append-assoc, append-nil}
 use mathlib.Core.Logic.{_⊎_, ⊎-elim, inl, inr}
 use native.Mathlib.Omega.{arith}
-use native.Mathlib.Nat.{mul-suc, mul-zero, mul-comm}
+use native.Mathlib.Nat.{mul-suc, mul-zero, mul-comm, add-zero, add-suc, zero-add, suc-add}
 use native.Mathlib.Decide.{decLt}
 use native.Mathlib.Numerals.{add-one}
 use lib.ListN.{length, getD, set, take, drop, length-append, length-drop, List·getD-append}
-use lib.Seq.{take-suc-set, drop-set-lt, append-snoc, take-at, drop-at, drop-cons, take-add, take-take, drop-drop, ext-getD, drop-append-add, drop-append-le, take-append-le, length-take-le, getD-append-add}
+use lib.Seq.{take-suc-set, drop-set-lt, append-snoc, take-at, drop-at, drop-cons, take-add, take-nil, take-take, drop-drop, ext-getD, drop-append-add, drop-append-le, take-append-le, length-take-le, getD-append-add}
 use Rattle.format.specs.Lists.{tab, joined, from}
 
 pub below-suc : (k n : ℕ) → k < suc n → (k ≡ n) ⊎ (k < n)
@@ -50,10 +50,13 @@ module _ {A : Type 0} where
   length-joined P n = length-append (joined P n) (P n)
 
   -- parts of one length
-  pub length-even : (P : ℕ → List A) (w : ℕ) → ((k : ℕ) → length (P k) ≡ w) → (n : ℕ) → length (joined P n) ≡ w * n
+  pub length-below : (P : ℕ → List A) (w n : ℕ) → ((k : ℕ) → k < n → length (P k) ≡ w) → length (joined P n) ≡ w * n
   unfolding joined
-  length-even P w h zero = sym (mul-zero w)
-  length-even P w h (suc n) = length-append (joined P n) (P n) ∙ omega (arith, length-even P w h n, h n, mul-suc w n)
+  length-below P w zero h = sym (mul-zero w)
+  length-below P w (suc n) h = length-append (joined P n) (P n) ∙ omega (arith, length-below P w n (λ k l. h k (omega arith)), h n (omega arith), mul-suc w n)
+
+  pub length-even : (P : ℕ → List A) (w : ℕ) → ((k : ℕ) → length (P k) ≡ w) → (n : ℕ) → length (joined P n) ≡ w * n
+  length-even P w h n = length-below P w n (λ k l. h k)
 
   -- more parts take no less
   pub length-mono : (P : ℕ → List A) (k n : ℕ) → k ≤ n → length (joined P k) ≤ length (joined P n)
@@ -107,6 +110,13 @@ module _ {A : Type 0} where
   joined-cong P Q zero h = refl
   joined-cong P Q (suc n) h = ap₂ (λ (x y : List A). x ++ y) (joined-cong P Q n (λ k l. h k (omega arith))) (h n (omega arith))
 
+  -- the first m parts, and those behind them
+  pub joined-add : (P : ℕ → List A) (m n : ℕ) → joined P (m + n) ≡ joined P m ++ joined (λ k. P (m + k)) n
+  unfolding joined
+  joined-add P m zero = ap (joined P) (add-zero m) ∙ sym (append-nil (joined P m))
+  joined-add P m (suc n) =
+      ap (joined P) (add-suc m n) ∙ ap (λ (x : List A). x ++ P (m + n)) (joined-add P m n) ∙ append-assoc (joined P m) (joined (λ k. P (m + k)) n) (P (m + n))
+
   -- the parts of a list, joined
   pub joined-from : (w : ℕ) (xs : List A) (n : ℕ) → joined (λ g. from (w * g) w xs) n ≡ take (w * n) xs
   unfolding joined from
@@ -133,17 +143,27 @@ module _ {A : Type 0} where
   unfolding from
   from-front n b c e = take-at b c n e
 
-  pub from-from : (k n i m : ℕ) (s : List A) → k + n ≤ m → i + m ≤ length s → from k n (from i m s) ≡ from (i + k) n s
+  drop-take : (k m : ℕ) (l : List A) → drop k (take (k + m) l) ≡ take m (drop k l)
+  drop-take zero m l = ap (λ (n : ℕ). take n l) (zero-add m)
+  drop-take (suc k) m [] = ap (drop (suc k)) (take-nil (suc k + m)) ∙ sym (take-nil m)
+  drop-take (suc k) m (x ∷ xs) = ap (λ (n : ℕ). drop (suc k) (take n (x ∷ xs))) (suc-add k m) ∙ drop-take k m xs
+
+  pub from-from : (k n i m : ℕ) (s : List A) → k + n ≤ m → from k n (from i m s) ≡ from (i + k) n s
   unfolding from
-  from-from k n i m s h l =
-      let d = length-drop i s in
+  from-from k n i m s h =
       let j : m ≡ k + (m - k) = omega arith in
-      let long : length (take k (drop i s)) ≡ k = length-take-le k (drop i s) (omega arith) in
       ap (λ (x : ℕ). take n (drop k (take x (drop i s)))) j
-      ∙ ap (λ (x : List A). take n (drop k x)) (take-add k (m - k) (drop i s))
-      ∙ ap (take n) (drop-at (take k (drop i s)) (take (m - k) (drop k (drop i s))) k long)
+      ∙ ap (take n) (drop-take k (m - k) (drop i s))
       ∙ take-take n (m - k) (drop k (drop i s)) (omega arith)
       ∙ ap (take n) (drop-drop k i s)
+
+  pub from-take : (k n m : ℕ) (s : List A) → k + n ≤ m → from k n (take m s) ≡ from k n s
+  unfolding from
+  from-take k n m s h = from-from k n 0 m s h ∙ ap (λ (x : ℕ). take n (drop x s)) (zero-add k)
+
+  -- lists with one part in common have the parts of it in common
+  pub from-same : (k n i m : ℕ) (s t : List A) → k + n ≤ m → from i m s ≡ from i m t → from (i + k) n s ≡ from (i + k) n t
+  from-same k n i m s t h e = sym (from-from k n i m s h) ∙ ap (from k n) e ∙ from-from k n i m t h
 
   pub length-from : (i n : ℕ) (s : List A) → i + n ≤ length s → length (from i n s) ≡ n
   unfolding from

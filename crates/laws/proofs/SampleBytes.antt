@@ -5,7 +5,7 @@ use mathlib.Core.List.{List, [], _++_, append-nil, append-assoc}
 use native.Mathlib.Nat.{add-zero, add-suc, zero-lt-suc}
 use native.Mathlib.Omega.{arith}
 use lib.ListN.{length, getD, take, drop, take-append-drop, length-append, List·getD-append}
-use lib.Seq.{take-all, drop-at, length-take-le, getD-append-add}
+use lib.Seq.{take-all, take-at, drop-at, length-take-le, getD-append-add}
 use lib.IntN.{ℤ, pos}
 use Rattle.format.specs.Lists.{tab, joined, from}
 use Rattle.format.specs.Numbers.{num, Below, le, numAt, value, codeOf}
@@ -49,6 +49,14 @@ sample-bytes-drop n s h =
     let e : length (sampleBytes (take n s)) ≡ 4 * n = sample-bytes-length (take n s) ∙ ap (λ (k : ℕ). 4 * k) (length-take-le n s h) in
     sym (drop-at (sampleBytes (take n s)) (sampleBytes (drop n s)) (4 * n) e)
     ∙ ap (drop (4 * n)) (sym (sample-bytes-append (take n s) (drop n s)) ∙ ap sampleBytes (take-append-drop n s))
+
+-- and of a part of them
+pub sample-bytes-from : (i n : ℕ) (s : List ℤ) → i + n ≤ length s → sampleBytes (from i n s) ≡ from (4 * i) (4 * n) (sampleBytes s)
+unfolding from
+sample-bytes-from i n s h =
+    let e : length (sampleBytes (take n (drop i s))) ≡ 4 * n = sample-bytes-length (take n (drop i s)) ∙ ap (λ (k : ℕ). 4 * k) (length-from i n s h) in
+    sym (take-at (sampleBytes (take n (drop i s))) (sampleBytes (drop n (drop i s))) (4 * n) e)
+    ∙ ap (take (4 * n)) (sym (sample-bytes-append (take n (drop i s)) (drop n (drop i s))) ∙ ap sampleBytes (take-append-drop n (drop i s)) ∙ sample-bytes-drop i s (omega arith))
 
 sample-back : (s : List ℤ) → Fit s → (k : ℕ) → k < length s → value 32 (numAt (4 * k) 4 (sampleBytes s)) ≡ getD s k (pos 0)
 unfolding sampleBytes numAt

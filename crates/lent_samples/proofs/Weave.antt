@@ -12,9 +12,9 @@ use lib.IntN.{ℤ, pos}
 use lib.ListN.{length, getD, set, take, drop, length-set, length-append, length-drop, take-append-drop, List·getD-append}
 use lib.Seq.{ext-getD, getD-set-same, getD-set-other, getD-append-add, getD-take, getD-drop, length-take-le, drop-cons, set-at}
 use Rattle.format.specs.Lists.{from}
-use Rattle.format.specs.Decoding.{woven}
+use Rattle.format.specs.Decoding.{frameOf, woven}
 use Rattle.laws.proofs.Parts.{length-even, joined-at, joined-cong, length-from, below-suc}
-use Rattle.laws.proofs.Channels.{frameOf, frame-length, frame-at}
+use Rattle.laws.proofs.Channels.{frame-length, frame-at}
 use Rattle.lent_samples.specs.Lent.{placed, strided, channelPut, wovenFrom}
 
 -- sample k of a run

@@ -1,10 +1,11 @@
 -- Samples that are lent as numbers or as bytes, four to a sample.
 use Prim.Native.Nat.{ℕ, _+_, _*_, _/_, _≤_, _<_}
 use mathlib.Core.Path.{_≡_}
-use mathlib.Core.List.{List, [], _∷_, _++_, map}
-use lib.ListN.{length, getD, take, drop, set}
-use lib.IntN.{ℤ, pos}
+use mathlib.Core.List.{List, [], _∷_, _++_}
+use lib.ListN.{length, take, drop, set}
+use lib.IntN.{ℤ}
 use Rattle.format.specs.Lists.{joined, from}
+use Rattle.format.specs.Decoding.{frameOf}
 use Rattle.format.specs.Boundary.{samplesFrom}
 use Rattle.lent_samples.specs.declared.Container.{Container}
 use Rattle.lent_samples.specs.declared.Part.{Part}
@@ -35,7 +36,7 @@ strided s p step (x ∷ xs) = strided (set s p x) (p + step) step xs
 
 -- the n frames of the channels from the frame `skip` on, interleaved
 unfoldable pub wovenFrom : ℕ → ℕ → List (List ℤ) → List ℤ
-wovenFrom skip n chans = joined (λ i. map (λ (ch : List ℤ). getD ch (skip + i) (pos 0)) chans) n
+wovenFrom skip n chans = joined (λ i. frameOf chans (skip + i)) n
 
 -- all that is lent, before and after: the samples become what `change` makes of them, and the rest stays
 abbrev pub Put : Container → List ℤ → List ℕ → List ℤ → List ℕ → (List ℤ → List ℤ) → Type 0

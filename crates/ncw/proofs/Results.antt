@@ -14,7 +14,8 @@ use Rattle.format.specs.Units.{samplesIn}
 use Rattle.format.specs.Refusals.{number, _then_}
 use Rattle.format.specs.Answers.{answered}
 use Rattle.format.specs.Opening.{checkOpen, headerOf, openOf}
-use Rattle.format.specs.Decoding.{checkDecode, decodedCount, checkRoom, decodeOf}
+use Rattle.format.specs.Decoding.{checkDecode, checkRoom, decodeOf}
+use Rattle.format.specs.FewFrames.{checkFramesInto, readFramesOf}
 use Rattle.format.specs.Encoding.{encodedFile, checkEncodeInto, encodeOf}
 use Rattle.format.specs.Reencoding.{checkReencodeInto, reencodeOf}
 use Rattle.format.specs.Boundary.{result}
@@ -66,14 +67,25 @@ pub open-reads-none : (s : List ℕ) (a : Answer) → a ≡ openOf s → (n : Sa
 unfolding openOf
 open-reads-none s a e n p = reads-few (checkOpen s) (Opened (headerOf s)) n (λ q. let none : true ≡ false = cc in never none) (sym (ap (λ (x : Answer). x .outcome) e) ∙ p)
 
+-- so many frames of a file, each a sample of each channel
+frames-few : (s : List ℕ) (count : Frames) (k : Checked) (a : Answer) → count .0 < 4294967296 → Below 256 s → a ≡ answered k (Read (samplesIn count (fieldsOf s .channels)))
+    → (n : Samples) → a .outcome ≡ Read n → 4 * n .0 < 2 ^ 64
+unfolding fieldsOf
+frames-few s count k a fits byte e n p = reads-few k (Read (samplesIn count (fieldsOf s .channels))) n few (sym (ap (λ (x : Answer). x .outcome) e) ∙ p)
+  where
+    few : Read (samplesIn count (fieldsOf s .channels)) ≡ Read n → 4 * n .0 < 2 ^ 64
+    few q =
+        let e : samplesIn count (fieldsOf s .channels) ≡ n = cc in
+        omega (arith, counts-lt (count .0) (fieldsOf s .channels) fits (number-lt 8 2 s byte), ap (λ (m : Samples). m .0) e)
+
 pub decode-reads-few : (s : List ℕ) (room : ℕ) (a : Answer) → Below 256 s → a ≡ decodeOf s room → (n : Samples) → a .outcome ≡ Read n → 4 * n .0 < 2 ^ 64
 unfolding decodeOf fieldsOf
-decode-reads-few s room a byte e n p = reads-few (checkDecode s then checkRoom s room) (Read (decodedCount s)) n few (sym (ap (λ (x : Answer). x .outcome) e) ∙ p)
-  where
-    few : Read (decodedCount s) ≡ Read n → 4 * n .0 < 2 ^ 64
-    few q =
-        let e : decodedCount s ≡ n = cc in
-        omega (arith, counts-lt (fieldsOf s .frames .0) (fieldsOf s .channels) (number-lt 16 4 s byte) (number-lt 8 2 s byte), ap (λ (m : Samples). m .0) e)
+decode-reads-few s room a byte e = frames-few s (fieldsOf s .frames) (checkDecode s then checkRoom s room) a (number-lt 16 4 s byte) byte e
+
+pub frames-read-few : (s : List ℕ) (first count : Frames) (room : ℕ) (a : Answer) → count .0 < 4294967296 → Below 256 s → a ≡ readFramesOf s first count room
+    → (n : Samples) → a .outcome ≡ Read n → 4 * n .0 < 2 ^ 64
+unfolding readFramesOf
+frames-read-few s first count room a fits byte e = frames-few s count (checkFramesInto s first count room) a fits byte e
 
 -- a writer answers what it wrote
 wrote-reads-none : (k : Checked) (w : ℕ) (a : Answer) → a ≡ answered k (Wrote w) → (n : Samples) → a .outcome ≡ Read n → 4 * n .0 < 2 ^ 64

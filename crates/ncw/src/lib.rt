@@ -3,6 +3,7 @@ mod words;
 
 use crate::words::refusal_word;
 use format::Checked;
+use format::Frames;
 use format::NOWHERE;
 use format::Outcome;
 use format::PcmSpec;
@@ -13,10 +14,11 @@ use lent_samples::Container;
 ghost use mathlib.Core.Path.{_≡_};
 ghost use Prim.Native.Nat.{_*_, _<_, _^_};
 ghost use Rattle.format.specs.declared.settings.PcmSpec.{PcmSpec};
+ghost use Rattle.format.specs.declared.units.Frames.{Frames};
 ghost use Rattle.format.specs.declared.units.Samples.{Samples};
 ghost use Rattle.format.specs.declared.answers.Outcome.the-variants.{Read};
 ghost use Rattle.format.specs.Boundary.{modeOf, result};
-ghost use Rattle.format.specs.Promises.{HostOpens, HostDecodes, HostEncodes, HostReencodes};
+ghost use Rattle.format.specs.Promises.{HostOpens, HostDecodes, HostReadsFrames, HostEncodes, HostReencodes};
 ghost use Rattle.format.specs.Promises.{HostDecodeRefuses, HostReencodeRefuses};
 
 // The length in bytes (for opening, what decoding would write), or 2^63 plus the refusal number.
@@ -52,6 +54,25 @@ pub extern "C" fn ncw_decode(file: &[u8], samples: &mut [u8]) -> u64
     ensures { λ r. ⌜ HostDecodes (now (file .entry)) (now (samples .entry)) r (now (samples .exit)) ⌝ }
 {
     let answer = reader::decode_lent(Container::Bytes, file, &mut [], samples);
+    let outcome = answer.outcome;
+    result(outcome)
+}
+
+// Reads `count` frames of a file, from the frame `first` on, into `samples`.
+#[no_mangle]
+pub extern "C" fn ncw_read_frames(file: &[u8], first: u32, count: u32, samples: &mut [u8]) -> u64
+    ensures { λ r. ⌜ (let first : Frames = record { 0 = first } in
+        let count : Frames = record { 0 = count } in
+        HostReadsFrames (now (file .entry)) first count (now (samples .entry)) r (now (samples .exit))) ⌝ }
+{
+    let answer = few_frames::read_frames_lent(
+        Container::Bytes,
+        file,
+        Frames(first),
+        Frames(count),
+        &mut [],
+        samples,
+    );
     let outcome = answer.outcome;
     result(outcome)
 }

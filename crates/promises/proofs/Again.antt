@@ -11,7 +11,7 @@ use lib.IntN.{ℤ}
 use lib.Dec.{ltb, leb, eqb}
 use Rattle.laws.proofs.TemplateFiles as F
 use Rattle.promises.proofs.Refile as R
-use Rattle.format.specs.Lists.{joined, over}
+use Rattle.format.specs.Lists.{joined}
 use Rattle.format.specs.Header.{fieldsOf, groupsOf, entry, groupBytes}
 use Rattle.format.specs.Refusals.{refuse, _then_, inOrder}
 use Rattle.format.specs.Places.{inGroup}
@@ -29,6 +29,7 @@ use Rattle.format.specs.declared.answers.Answer.{Answer}
 use Rattle.laws.proofs.Parts.{joined-cong}
 use Rattle.laws.proofs.Checks.{_then-same_, first-fine, order-cong, any-cong}
 use Rattle.laws.proofs.Channels.{group-length}
+use Rattle.promises.proofs.Outcomes.{filled-same}
 use Rattle.promises.proofs.NewGroups.{group-checks-same, group-same}
 
 -- re-encoding accepts s with the template t, and gives t′
@@ -121,11 +122,8 @@ module _ (p : PcmSpec) (s : List ℤ) (t : List ℕ) (ok : checkReencode p s t �
     pub leaves-same : (lent : List ℕ) → reencodeInto q z t′ lent ≡ reencodeInto q z t lent
     unfolding reencodeInto checkReencodeInto
     leaves-same lent =
-        ap (λ (c : Checked). filled c (reencodedFile z t′) lent) (into-same (length lent)) ∙ by (checkReencodeInto q z t (length lent)) refl
-      where
-        by : (c : Checked) → checkReencodeInto q z t (length lent) ≡ c → filled c (reencodedFile z t′) lent ≡ filled c (reencodedFile z t) lent
-        by Fine e = ap (λ (f : List ℕ). over f lent) (same-file (first-fine _ _ e))
-        by (No r at) e = refl
+        filled-same (checkReencodeInto q z t′ (length lent)) (checkReencodeInto q z t (length lent)) (reencodedFile z t′) (reencodedFile z t) lent
+        (into-same (length lent)) (λ e. same-file (first-fine _ _ e))
 
   -- ---- and so it does at the host boundary, of any bytes
   module _ (b : List ℕ) (q : PcmSpec) (room : List ℕ) where

@@ -13,10 +13,12 @@ use Rattle.format.specs.Answers.{refusedBy, answered, filled}
 use Rattle.format.specs.Opening.{checkOpen, headerOf, openOf}
 use Rattle.format.specs.Decoding.{checkDecode, decodedOf, decodedCount, checkRoom, decodeOf, decodeInto}
 use Rattle.format.specs.Walking.{stepSamples, stepCount, hasGroup, checkWalk, stepOf, stepInto}
+use Rattle.format.specs.FewFrames.{checkFrames, framesCount, checkFramesInto, framesAt, readFramesOf, readFramesInto}
 use Rattle.format.specs.Encoding.{encodedFile, checkEncode, checkEncodeInto, encodeOf, encodeInto}
 use Rattle.format.specs.Reencoding.{reencodedFile, checkReencode, checkReencodeInto, reencodeOf, reencodeInto}
-use Rattle.format.specs.Boundary.{samplesFrom, sampleBytes, modeOf, checkMode, checkBytes, result, hostDecode, hostDecodeInto, checkHostEncode, hostEncode, hostEncodeInto, checkHostReencode, hostReencode, hostReencodeInto}
-use Rattle.format.specs.Promises.{Opens, Decodes, Steps, Advances, Encodes, Reencodes, HostOpens, HostDecodes, HostEncodes, HostReencodes, HostDecodeRefuses, HostReencodeRefuses}
+use Rattle.format.specs.Boundary.{samplesFrom, sampleBytes, modeOf, checkMode, checkBytes, result, hostDecode, hostDecodeInto, hostReadFrames, hostReadFramesInto, checkHostEncode, hostEncode, hostEncodeInto, checkHostReencode, hostReencode, hostReencodeInto}
+use Rattle.format.specs.Promises.{Opens, Decodes, Steps, Advances, ReadsFrames, Encodes, Reencodes, HostOpens, HostDecodes, HostReadsFrames, HostEncodes, HostReencodes, HostDecodeRefuses, HostReencodeRefuses}
+use Rattle.format.specs.declared.units.Frames.{Frames}
 use Rattle.format.specs.declared.units.Samples.{Samples}
 use Rattle.format.specs.declared.refusals.Refusal.{Refusal}
 use Rattle.format.specs.declared.refusals.Place.{Place}
@@ -41,6 +43,8 @@ pub record RefusedExactly : Type 0 where
   pub opens : (s : List ℕ) (r : Answer) (x : Refusal) (at : Place) → Opens s r → Exactly (r ≡ refusedBy x at) (checkOpen s ≡ No x at)
   pub decodes : (s : List ℕ) (lent after : List ℤ) (r : Answer) (x : Refusal) (at : Place) → Decodes s lent r after → Exactly (r ≡ refusedBy x at) ((checkDecode s then checkRoom s (length lent)) ≡ No x at)
   pub steps : (s : List ℕ) (g : ℕ) (lent after : List ℤ) (r : Answer) (x : Refusal) (at : Place) → Steps s g lent r after → Exactly (r ≡ refusedBy x at) (checkWalk s g (length lent) ≡ No x at)
+  pub reads-frames : (s : List ℕ) (first count : Frames) (lent after : List ℤ) (r : Answer) (x : Refusal) (at : Place) → ReadsFrames s first count lent r after
+      → Exactly (r ≡ refusedBy x at) (checkFramesInto s first count (length lent) ≡ No x at)
   pub encodes : (p : PcmSpec) (mode : StereoMode) (s : List ℤ) (lent after : List ℕ) (r : Answer) (x : Refusal) (at : Place) → Encodes p mode s lent r after
       → Exactly (r ≡ refusedBy x at) (checkEncodeInto p mode s (length lent) ≡ No x at)
   pub reencodes : (p : PcmSpec) (s : List ℤ) (t lent after : List ℕ) (r : Answer) (x : Refusal) (at : Place) → Reencodes p s t lent r after
@@ -51,13 +55,14 @@ left-or-done true n = refl
 left-or-done false n = refl
 
 pub refused-exactly : RefusedExactly
-unfolding openOf decodeOf stepOf encodeOf reencodeOf
+unfolding openOf decodeOf stepOf readFramesOf encodeOf reencodeOf
 refused-exactly =
     record {
       opens = λ s r x at e. exactly-no (checkOpen s) (Opened (headerOf s)) refl x at r e;
       decodes = λ s lent after r x at e. exactly-no (checkDecode s then checkRoom s (length lent)) (Read (decodedCount s)) refl x at r (e .0);
       steps = λ s g lent after r x at e.
           exactly-no (checkWalk s g (length lent)) (cond (hasGroup s g) (Read (stepCount s g)) Finished) (left-or-done (hasGroup s g) (stepCount s g)) x at r (e .0);
+      reads-frames = λ s first count lent after r x at e. exactly-no (checkFramesInto s first count (length lent)) (Read (framesCount s count)) refl x at r (e .0);
       encodes = λ p mode s lent after r x at e. exactly-no (checkEncodeInto p mode s (length lent)) (Wrote (length (encodedFile p mode s))) refl x at r (e .0);
       reencodes = λ p s t lent after r x at e. exactly-no (checkReencodeInto p s t (length lent)) (Wrote (length t)) refl x at r (e .0);
     }
@@ -96,17 +101,21 @@ pub record OneOutcome : Type 1 where
   -- and in the next group's number
   pub advances : (s : List ℕ) (g : ℕ) (lent : List ℤ) (r r′ : Answer) (after after′ : List ℤ) (next next′ : ℕ)
       → Advances s g lent r after next → Advances s g lent r′ after′ next′ → (r ≡ r′) × (after ≡ after′) × (next ≡ next′)
+  pub reads-frames : (s : List ℕ) (first count : Frames) (lent : List ℤ) → One (ReadsFrames s first count lent)
   pub encodes : (p : PcmSpec) (mode : StereoMode) (s : List ℤ) (lent : List ℕ) → One (Encodes p mode s lent)
   pub reencodes : (p : PcmSpec) (s : List ℤ) (t lent : List ℕ) → One (Reencodes p s t lent)
   pub host-decodes : (s lent : List ℕ) → One (HostDecodes s lent)
+  pub host-reads-frames : (s : List ℕ) (first count : Frames) (lent : List ℕ) → One (HostReadsFrames s first count lent)
   pub host-encodes : (b : List ℕ) (p : PcmSpec) (mode : ℕ) (lent : List ℕ) → One (HostEncodes b p mode lent)
   pub host-reencodes : (b : List ℕ) (p : PcmSpec) (t lent : List ℕ) → One (HostReencodes b p t lent)
   -- the words of what decoding and re-encoding would refuse, and where
   pub host-decode-refuses : (s : List ℕ) (room r r′ : ℕ) → HostDecodeRefuses s room r → HostDecodeRefuses s room r′ → r ≡ r′
   pub host-reencode-refuses : (b : List ℕ) (p : PcmSpec) (t : List ℕ) (room r r′ : ℕ) → HostReencodeRefuses b p t room r → HostReencodeRefuses b p t room r′ → r ≡ r′
-  -- samples lent in either container: decode_lent, decode_group_lent
+  -- samples lent in either container: decode_lent, decode_group_lent, read_frames_lent
   pub decodes-lent : (s : List ℕ) (which : Container) (words : List ℤ) (bytes : List ℕ) → OneInEither (Decodes s (lentOf which words bytes)) which words bytes
   pub steps-lent : (s : List ℕ) (g : ℕ) (which : Container) (words : List ℤ) (bytes : List ℕ) → OneInEither (Steps s g (lentOf which words bytes)) which words bytes
+  pub reads-frames-lent : (s : List ℕ) (first count : Frames) (which : Container) (words : List ℤ) (bytes : List ℕ)
+      → OneInEither (ReadsFrames s first count (lentOf which words bytes)) which words bytes
 
 pub one-outcome-each : OneOutcome
 one-outcome-each =
@@ -117,15 +126,18 @@ one-outcome-each =
       decodes = λ s lent. equations _ _;
       steps = λ s g lent. equations _ _;
       advances = λ s g lent r r′ after after′ next next′ p q. (p .0 .0 ∙ sym (q .0 .0), p .0 .1 ∙ sym (q .0 .1), p .1 ∙ sym (q .1));
+      reads-frames = λ s first count lent. equations _ _;
       encodes = λ p mode s lent. equations _ _;
       reencodes = λ p s t lent. equations _ _;
       host-decodes = λ s lent. equations _ _;
+      host-reads-frames = λ s first count lent. equations _ _;
       host-encodes = λ b p mode lent. equations _ _;
       host-reencodes = λ b p t lent. equations _ _;
       host-decode-refuses = λ s room r r′ p q. p ∙ sym q;
       host-reencode-refuses = λ b p t room r r′ e q. e ∙ sym q;
       decodes-lent = λ s which words bytes. in-either _ (equations _ _) which words bytes;
       steps-lent = λ s g which words bytes. in-either _ (equations _ _) which words bytes;
+      reads-frames-lent = λ s first count which words bytes. in-either _ (equations _ _) which words bytes;
     }
 
 -- ---- 8. REFUSALS CHANGE NOTHING
@@ -147,13 +159,17 @@ pub record RefusalsKeep : Type 0 where
   pub steps : (s : List ℕ) (g : ℕ) (lent : List ℤ) → Keeps (Steps s g lent) lent
   -- and the walk stays where it is
   pub advances : (s : List ℕ) (g : ℕ) (lent after : List ℤ) (x : Refusal) (at : Place) (next : ℕ) → Advances s g lent (refusedBy x at) after next → (after ≡ lent) × (next ≡ g)
+  pub reads-frames : (s : List ℕ) (first count : Frames) (lent : List ℤ) → Keeps (ReadsFrames s first count lent) lent
   pub encodes : (p : PcmSpec) (mode : StereoMode) (s : List ℤ) (lent : List ℕ) → Keeps (Encodes p mode s lent) lent
   pub reencodes : (p : PcmSpec) (s : List ℤ) (t lent : List ℕ) → Keeps (Reencodes p s t lent) lent
   pub host-decodes : (s lent : List ℕ) → HostKeeps (HostDecodes s lent) lent
+  pub host-reads-frames : (s : List ℕ) (first count : Frames) (lent : List ℕ) → HostKeeps (HostReadsFrames s first count lent) lent
   pub host-encodes : (b : List ℕ) (p : PcmSpec) (mode : ℕ) (lent : List ℕ) → HostKeeps (HostEncodes b p mode lent) lent
   pub host-reencodes : (b : List ℕ) (p : PcmSpec) (t lent : List ℕ) → HostKeeps (HostReencodes b p t lent) lent
   pub decodes-lent : (s : List ℕ) (which : Container) (words : List ℤ) (bytes : List ℕ) → KeepsInEither (Decodes s (lentOf which words bytes)) which words bytes
   pub steps-lent : (s : List ℕ) (g : ℕ) (which : Container) (words : List ℤ) (bytes : List ℕ) → KeepsInEither (Steps s g (lentOf which words bytes)) which words bytes
+  pub reads-frames-lent : (s : List ℕ) (first count : Frames) (which : Container) (words : List ℤ) (bytes : List ℕ)
+      → KeepsInEither (ReadsFrames s first count (lentOf which words bytes)) which words bytes
 
 decode-keeps : (s : List ℕ) (lent : List ℤ) → Keeps (Decodes s lent) lent
 unfolding decodeOf decodeInto
@@ -164,6 +180,11 @@ unfolding stepOf stepInto
 step-keeps s g lent x at after d =
     refused-keeps (checkWalk s g (length lent)) (cond (hasGroup s g) (Read (stepCount s g)) Finished) x at (cond (hasGroup s g) (stepSamples s g) []) lent after
     (left-or-done (hasGroup s g) (stepCount s g)) (d .0) (d .1)
+
+frames-keep : (s : List ℕ) (first count : Frames) (lent : List ℤ) → Keeps (ReadsFrames s first count lent) lent
+unfolding readFramesOf readFramesInto
+frames-keep s first count lent x at after d =
+    refused-keeps (checkFramesInto s first count (length lent)) (Read (framesCount s count)) x at (framesAt s first count) lent after refl (d .0) (d .1)
 
 encode-keeps : (p : PcmSpec) (mode : StereoMode) (s : List ℤ) (lent : List ℕ) → Keeps (Encodes p mode s lent) lent
 unfolding encodeOf encodeInto
@@ -186,6 +207,10 @@ pub decode-short : (s : List ℕ) (room : ℕ) → room < 2 ^ 63 → (checkDecod
 unfolding checkRoom
 decode-short s room short fine = let q = has-room (checkDecode s) (room / 4) (decodedCount s .0) OutputTooShort fine in omega arith
 
+pub frames-short : (s : List ℕ) (first count : Frames) (room : ℕ) → room < 2 ^ 63 → checkFramesInto s first count (room / 4) ≡ Fine → result (Read (framesCount s count)) < 2 ^ 63
+unfolding checkFramesInto
+frames-short s first count room short fine = let q = has-room (checkFrames s first count) (room / 4) (framesCount s count .0) OutputTooShort fine in omega arith
+
 pub reencode-short : (b : List ℕ) (p : PcmSpec) (t : List ℕ) (room : ℕ) → room < 2 ^ 63 → checkHostReencode b p t room ≡ Fine → result (Wrote (length t)) < 2 ^ 63
 unfolding checkHostReencode checkReencodeInto
 reencode-short b p t room short fine =
@@ -195,6 +220,11 @@ host-decode-keeps : (s lent : List ℕ) → HostKeeps (HostDecodes s lent) lent
 unfolding hostDecode hostDecodeInto decodeOf
 host-decode-keeps s lent =
     host-keeps (checkDecode s then checkRoom s (length lent / 4)) (Read (decodedCount s)) (sampleBytes (decodedOf s)) lent (decode-short s (length lent))
+
+host-frames-keep : (s : List ℕ) (first count : Frames) (lent : List ℕ) → HostKeeps (HostReadsFrames s first count lent) lent
+unfolding hostReadFrames hostReadFramesInto readFramesOf
+host-frames-keep s first count lent =
+    host-keeps (checkFramesInto s first count (length lent / 4)) (Read (framesCount s count)) (sampleBytes (framesAt s first count)) lent (frames-short s first count (length lent))
 
 host-encode-keeps : (b : List ℕ) (p : PcmSpec) (mode : ℕ) (lent : List ℕ) → HostKeeps (HostEncodes b p mode lent) lent
 unfolding hostEncode hostEncodeInto checkHostEncode checkEncodeInto
@@ -219,11 +249,15 @@ refusals-keep =
       decodes = decode-keeps;
       steps = step-keeps;
       advances = λ s g lent after x at next d. let e = step-moves s g lent after (refusedBy x at) next d in (step-keeps s g lent x at after (d .0), omega arith);
+      reads-frames = frames-keep;
       encodes = encode-keeps;
       reencodes = reencode-keeps;
       host-decodes = host-decode-keeps;
+      host-reads-frames = host-frames-keep;
       host-encodes = host-encode-keeps;
       host-reencodes = host-reencode-keeps;
       decodes-lent = λ s which words bytes. keeps-in-either (Decodes s (lentOf which words bytes)) which words bytes (decode-keeps s (lentOf which words bytes));
       steps-lent = λ s g which words bytes. keeps-in-either (Steps s g (lentOf which words bytes)) which words bytes (step-keeps s g (lentOf which words bytes));
+      reads-frames-lent = λ s first count which words bytes.
+          keeps-in-either (ReadsFrames s first count (lentOf which words bytes)) which words bytes (frames-keep s first count (lentOf which words bytes));
     }

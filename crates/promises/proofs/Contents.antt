@@ -13,11 +13,13 @@ use Rattle.format.specs.Opening.{formatOf, checkOpen, headerFor, openOf}
 use Rattle.format.specs.Units.{active}
 use Rattle.format.specs.Decoding.{checkGroup, checkDecode, decodedOf, decodeInto}
 use Rattle.format.specs.Walking.{stepSamples}
+use Rattle.format.specs.FewFrames.{framesAt}
 use Rattle.format.specs.Encoding.{groupIn, encodedGroupAt, encodedFile, framesOf}
 use Rattle.format.specs.Reencoding.{reencodedGroup}
-use Rattle.format.specs.Promises.{Opens, Decodes, Steps, Encodes, Reencodes}
+use Rattle.format.specs.Promises.{Opens, Decodes, Steps, ReadsFrames, Encodes, Reencodes}
 use Rattle.format.specs.Places.{atGroup}
 use Rattle.format.specs.declared.refusals.Checked.{Checked}
+use Rattle.format.specs.declared.units.Frames.{Frames}
 use Rattle.format.specs.declared.settings.PcmSpec.{PcmSpec}
 use Rattle.format.specs.declared.settings.StereoMode.{StereoMode}
 use Rattle.format.specs.declared.settings.SampleFormat.the-variants.{Pcm}
@@ -36,6 +38,7 @@ use Rattle.promises.proofs.FileLaws.{fieldsFor}
 use Rattle.promises.proofs.RoundTrip as RoundTrip
 use Rattle.promises.proofs.Refile as Refile
 use Rattle.promises.proofs.WalkLaws.{steps-joined, step-count, step-leaves}
+use Rattle.promises.proofs.FewFramesLaws.{range-count, range-left}
 use Rattle.promises.proofs.Files.{encode-ok, file-long, file-written, reencode-ok, as-long, new-file}
 use Rattle.promises.proofs.Demands.{Rate32}
 
@@ -46,6 +49,8 @@ pub record EveryGroup : Type 0 where
       → let h = fieldsOf s in (g : ℕ) → g < groupsOf (h .frames) → from (512 * h .channels * g) (h .channels * active (h .frames) g) after ≡ stepSamples s g
   -- a step leaves them at the front, and says how many they are
   pub stepped : (s : List ℕ) (g : ℕ) (lent after : List ℤ) (n : ℕ) → Steps s g lent (read n) after → take n after ≡ stepSamples s g
+  -- a few frames lie at the front, each from its own group
+  pub ranged : (s : List ℕ) (first count : Frames) (lent after : List ℤ) (n : ℕ) → ReadsFrames s first count lent (read n) after → take n after ≡ framesAt s first count
   -- group g of the file is that of the samples' group g
   pub encoded : (p : PcmSpec) (mode : StereoMode) (s : List ℤ) (lent file : List ℕ) (n : ℕ) → Rate32 p → Encodes p mode s lent (wrote n) file
       → (g : ℕ) → g < groupsOf (framesOf p s) → groupBytes (take n file) (fieldsOf (take n file)) g ≡ encodedGroupAt p mode s g
@@ -93,6 +98,7 @@ every-group =
     record {
       decoded = step-lies;
       stepped = step-leaves;
+      ranged = range-left;
       encoded = λ p mode s lent file n rate e g l.
           let ok = encode-ok p mode s lent file n e in
           let lay = RoundTrip.layout p mode s ok rate in
@@ -108,6 +114,7 @@ pub record LengthsAre : Type 0 where
   -- frames × channels
   pub decoded : (s : List ℕ) (lent after : List ℤ) (n : ℕ) → Decodes s lent (read n) after → n ≡ fieldsOf s .frames .0 * fieldsOf s .channels
   pub stepped : (s : List ℕ) (g : ℕ) (lent after : List ℤ) (n : ℕ) → Steps s g lent (read n) after → n ≡ active (fieldsOf s .frames) g * fieldsOf s .channels
+  pub ranged : (s : List ℕ) (first count : Frames) (lent after : List ℤ) (n : ℕ) → ReadsFrames s first count lent (read n) after → n ≡ count .0 * fieldsOf s .channels
   -- the data offset and the sum of block lengths, each 16 + 64 × width
   pub encoded : (p : PcmSpec) (mode : StereoMode) (s : List ℤ) (lent file : List ℕ) (n : ℕ) → Encodes p mode s lent (wrote n) file
       → let frames = framesOf p s in n ≡ offsetOf frames + sum (λ g. blocksIn (p .«bits_per_sample») (codedAt p mode s g)) (groupsOf frames)
@@ -119,6 +126,7 @@ lengths-are =
     record {
       decoded = read-count;
       stepped = step-count;
+      ranged = range-count;
       encoded = λ p mode s lent file n e. file-long p mode s lent file n e ∙ file-size p mode s;
       reencoded = as-long;
     }

@@ -69,13 +69,24 @@ module _ (b : List ℕ) (p : PcmSpec) (t lent : List ℕ) (n : ℕ) (file : List
       (others-fine (checkBytes b) _ reencode-rest)
 
 -- decoding the file f read n bytes: they are those of its samples
-pub host-read : (f out after : List ℕ) (n : ℕ) → HostDecodes f out n after → n < 2 ^ 63 → take n after ≡ sampleBytes (decodedOf f)
-unfolding hostDecode hostDecodeInto decodeOf checkRoom
-host-read f out after n d short =
-    let c = checkDecode f then checkRoom f (length out / 4) in
-    let fine = host-fine c (Read (decodedCount f)) n (d .0) short in
-    let count = host-length c (Read (decodedCount f)) n (d .0) short in
-    written-front c n (sampleBytes (decodedOf f)) out after fine (count ∙ ap (λ (k : ℕ). 4 * k) (decode-count f (first-fine _ _ fine)) ∙ sym (sample-bytes-length (decodedOf f))) (d .1)
+module _ (f out after : List ℕ) (n : ℕ) (d : HostDecodes f out n after) (short : n < 2 ^ 63) where
+  abbrev c : Checked
+  c = checkDecode f then checkRoom f (length out / 4)
+
+  host-passed : c ≡ Fine
+  unfolding hostDecode decodeOf
+  host-passed = host-fine c (Read (decodedCount f)) n (d .0) short
+
+  pub host-decoded : checkDecode f ≡ Fine
+  host-decoded = first-fine _ _ host-passed
+
+  pub host-count : n ≡ 4 * length (decodedOf f)
+  unfolding hostDecode decodeOf
+  host-count = host-length c (Read (decodedCount f)) n (d .0) short ∙ ap (λ (k : ℕ). 4 * k) (decode-count f host-decoded)
+
+  pub host-read : take n after ≡ sampleBytes (decodedOf f)
+  unfolding hostDecodeInto
+  host-read = written-front c n (sampleBytes (decodedOf f)) out after host-passed (host-count ∙ sym (sample-bytes-length (decodedOf f))) (d .1)
 
 -- a file that decodes to the samples in b, into room for b
 module _ (b : List ℕ) (whole : length b % 4 ≡ 0) where

@@ -3,8 +3,8 @@
 -- 36 tells, the channel and the group.
 use Prim.Native.Nat.{ℕ, _+_, _/_, _%_, _^_, _≤_, _<_}
 use mathlib.Core.Path.{_≡_, refl, sym, ap, _∙_}
-use mathlib.Core.Bool.{true, not, _&&_}
-use mathlib.Core.List.{List, [], _∷_}
+use mathlib.Core.Bool.{Bool, true, not, _&&_}
+use mathlib.Core.List.{List}
 use mathlib.Core.Logic.{_⊎_, ⊎-elim, inl, inr}
 use native.Mathlib.Omega.{arith}
 use lib.ListN.{length}
@@ -13,14 +13,13 @@ use borrow.Author.Tests.{ltb-true, not-true}
 use Rattle.format.specs.Lists.{every}
 use Rattle.format.specs.Numbers.{Below}
 use Rattle.format.specs.Header.{fieldsOf, groupsOf, groupBytes}
-use Rattle.format.specs.Refusals.{number, told, refuse, _then_, inOrder}
-use Rattle.format.specs.Blocks.{fromBlock}
-use Rattle.format.specs.Places.{atGroup, atChannel, located, outside, inside, IsNamed}
+use Rattle.format.specs.Refusals.{number, told, _then_}
+use Rattle.format.specs.Places.{atGroup, outside, inside, IsNamed}
 use Rattle.format.specs.declared.places.Named.{Named}
 use Rattle.format.specs.declared.places.Named.the-variants.{NoGroup, TheGroup, TheBlock}
 use Rattle.format.specs.Answers.{answered}
-use Rattle.format.specs.Opening.{formatOf, badEntry, checkOpen}
-use Rattle.format.specs.Decoding.{checkBlock, checkGroup, checkDecode, decodedCount, checkRoom, decodeOf}
+use Rattle.format.specs.Opening.{formatOf, checkOpen}
+use Rattle.format.specs.Decoding.{checkGroup, checkDecode, decodedCount, checkRoom, decodeOf}
 use Rattle.format.specs.Reencoding.{checkReencodeInto}
 use Rattle.format.specs.Boundary.{samplesFrom, checkBytes, result, hostDecode, checkHostReencode, hostReencode}
 use Rattle.format.specs.Boundary.{misfitTold, refusalWord, hostDecodeRefusal, hostReencodeRefusal}
@@ -31,18 +30,16 @@ use Rattle.format.specs.declared.refusals.Refusal.the-variants.{ZeroRate, Table
 use Rattle.format.specs.declared.refusals.Refusal.the-variants.{FirstEntry, EntryBounds, FloatDiffers, MidSideChannels, BytesLeft, WriterSpec}
 use Rattle.format.specs.declared.refusals.Refusal.the-variants.{IncompleteFrame, ValueOutside, TooManyFrames, NotStereo, ParityDiffers, WidthTooSmall}
 use Rattle.format.specs.declared.refusals.Refusal.the-variants.{DataTooLarge, UnknownMode, SampleBytes, TemplateDiffers, TemplateBounds, TemplateOffsets}
-use Rattle.format.specs.declared.refusals.Refusal.the-variants.{ShortGroup, TemplateBits, TemplateFlags, TemplateBytesLeft, OutputTooShort}
+use Rattle.format.specs.declared.refusals.Refusal.the-variants.{ShortGroup, TemplateBits, TemplateFlags, TemplateBytesLeft, OutputTooShort, RangePastEnd}
 use Rattle.format.specs.declared.refusals.Place.{Place}
 use Rattle.format.specs.declared.refusals.Checked.{Checked}
 use Rattle.format.specs.declared.refusals.Checked.the-variants.{Fine, No}
 use Rattle.format.specs.declared.settings.PcmSpec.{PcmSpec}
-use Rattle.format.specs.declared.settings.SampleFormat.{SampleFormat}
-use Rattle.format.specs.declared.answers.Fields.{Fields}
 use Rattle.format.specs.declared.answers.Outcome.{Outcome}
 use Rattle.format.specs.declared.answers.Outcome.the-variants.{Read, Wrote}
 use Rattle.laws.proofs.Tests.{never, and-left, and-right}
 use Rattle.laws.proofs.Checks.{unsaid, said-after}
-use Rattle.laws.proofs.Located.{Says, says-refuse, says-located, says-order, _and-says_, says-nowhere, only-says, block-says, open-says, bytes-nowhere, channels-few}
+use Rattle.laws.proofs.Located.{says-refuse, _and-says_, says-nowhere, Passes, each-passes, open-passes, group-passes, bytes-nowhere, channels-few}
 use Rattle.promises.proofs.Outcomes.{Exactly}
 use Rattle.promises.proofs.Certain.{decode-short, reencode-short}
 use Rattle.promises.proofs.Misfits.{misfit-so, misfit-below}
@@ -100,6 +97,7 @@ known TemplateBits = (refl, inl refl)
 known TemplateFlags = (refl, inl refl)
 known TemplateBytesLeft = (refl, inl refl)
 known OutputTooShort = (refl, inl refl)
+known RangePastEnd = (refl, inl refl)
 
 number-some : (x : Refusal) → 0 < number x
 number-some x = ltb-true 0 (number x) (and-left _ _ (known x .0))
@@ -132,9 +130,6 @@ table-few before groups channels x at few (InGroup e y n) = named-few groups cha
 table-few before groups channels x at few (NoRoom e y n) = named-few groups channels at NoGroup few n
 
 -- ---- decoding never says 36
-abbrev Untold : Refusal → Place → Type 0
-Untold r at = misfitTold (told r) ≡ 0
-
 untold : (r : Refusal) → not (eqb (number r) 36) ≡ true → misfitTold (told r) ≡ 0
 untold r e =
     ⊎-elim
@@ -142,29 +137,14 @@ untold r e =
     (λ (q : r ≡ WidthTooSmall (misfitTold (told r))). never (sym (ap (λ (x : Refusal). eqb (number x) 36) q) ∙ not-true _ e))
     (known r .1)
 
-each-untold : (check : ℕ → Checked) (move : ℕ → Place → Place) (n : ℕ) → ((i : ℕ) → Says Untold (check i)) → Says Untold (inOrder (λ i. located (move i) (check i)) n)
-each-untold check move n each = says-order Untold _ n (λ i l. says-located Untold Untold (move i) (check i) (λ r at e. e) (each i))
-
-open-untold : (s : List ℕ) → Says Untold (checkOpen s)
-unfolding every
-open-untold s =
+decode-untold : (s : List ℕ) (room : ℕ) (x : Refusal) (at : Place) → (checkDecode s then checkRoom s room) ≡ No x at → misfitTold (told x) ≡ 0
+unfolding checkDecode checkRoom every
+decode-untold s room x at e =
     let h = fieldsOf s in
-    open-says Untold s (λ n. not (eqb n 36)) refl untold
-    (each-untold (λ g. refuse (badEntry s h g) EntryBounds) atGroup (groupsOf (h .frames)) (λ g. says-refuse Untold _ EntryBounds refl))
-
-group-untold : (h : Fields) (f : SampleFormat) (group : List ℕ) → Says Untold (checkGroup h f group)
-unfolding checkGroup every
-group-untold h f group =
-    each-untold (λ c. checkBlock h f c (fromBlock (h .depth) group c)) atChannel (h .channels)
-    (λ c. only-says (1 ∷ 3 ∷ 20 ∷ 21 ∷ 4 ∷ []) _ (block-says h f c _) Untold (λ n. not (eqb n 36)) refl untold)
-    and-says says-refuse Untold _ BytesLeft refl
-
-decode-untold : (s : List ℕ) (room : ℕ) → Says Untold (checkDecode s then checkRoom s room)
-unfolding checkDecode checkRoom
-decode-untold s room =
-    let h = fieldsOf s in
-    (open-untold s and-says each-untold (λ g. checkGroup h (formatOf s h) (groupBytes s h g)) atGroup (groupsOf (h .frames)) (λ g. group-untold h (formatOf s h) _))
-    and-says says-refuse Untold _ OutputTooShort refl
+    let other : ℕ → Bool = λ n. not (eqb n 36) in
+    untold x
+    (((open-passes other refl s and-says each-passes other (λ g. checkGroup h (formatOf s h) (groupBytes s h g)) atGroup (groupsOf (h .frames)) (λ g. group-passes other refl h (formatOf s h) _))
+    and-says says-refuse (Passes other) _ OutputTooShort refl) x at e)
 
 -- ---- re-encoding says 36 of a place below 512
 module _ (b : List ℕ) (p : PcmSpec) (t : List ℕ) (room : ℕ) where

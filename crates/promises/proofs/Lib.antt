@@ -4,6 +4,7 @@ pub mod Hosts
 pub mod Certain
 pub mod Contents
 pub mod Walks
+pub mod FewFrames
 pub mod Places
 pub mod HostWords
 pub mod Impostors
@@ -28,7 +29,9 @@ pub mod Kept
 pub mod NewGroups
 pub mod Refile
 pub mod Again
--- parity; what did not fit; the walk
+-- parity; what did not fit; the walk; a few frames
 pub mod ParityLaws
 pub mod Misfits
 pub mod WalkLaws
+pub mod ViewLaws
+pub mod FewFramesLaws

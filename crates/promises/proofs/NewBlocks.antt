@@ -258,7 +258,7 @@ module _ (depth : ℕ) (low : 1 ≤ depth) (r : List ℕ) (xs : List ℤ) (some 
   -- bytes 8 to 15 stay
   word-same : (t : List ℕ) (k n : ℕ) → k + n ≤ 8 → from (4 + (4 + k)) n (reencodedBlock depth r xs ++ t) ≡ from (8 + k) n r
   unfolding reencodedBlock
-  word-same t k n h = part-word (take 4 r) base (from 8 8 r) pk la lb lw t k n h ∙ from-from k n 8 8 r h (ok .head)
+  word-same t k n h = part-word (take 4 r) base (from 8 8 r) pk la lb lw t k n h ∙ from-from k n 8 8 r h
 
   coding-same : (t : List ℕ) → codingOf depth (reencodedBlock depth r xs ++ t) ≡ c
   unfolding codingOf bitsOf numAt

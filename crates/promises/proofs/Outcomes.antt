@@ -84,6 +84,14 @@ no-keeps {A} c r at w before after e p = p ∙ ap (λ (k : Checked). filled k w 
 pub refused-keeps : {A : Type 0} (c : Checked) (o : Outcome) (r : Refusal) (at : Place) (w before after : List A) → isRefused o ≡ false → refusedBy r at ≡ answered c o → after ≡ filled c w before → after ≡ before
 refused-keeps {A} c o r at w before after success e = no-keeps c r at w before after (refused-no o success r at c e)
 
+-- the same checks, and where they pass the same contents
+pub filled-same : {A : Type 0} (c d : Checked) (w v before : List A) → c ≡ d → (d ≡ Fine → w ≡ v) → filled c w before ≡ filled d v before
+filled-same {A} c d w v before e q = ap (λ (k : Checked). filled k w before) e ∙ by d q
+  where
+    by : (k : Checked) → (k ≡ Fine → w ≡ v) → filled k w before ≡ filled k v before
+    by Fine f = ap (λ (x : List A). over x before) (f refl)
+    by (No r at) f = refl
+
 -- what was written lies at the front
 pub written-front : {A : Type 0} (c : Checked) (n : ℕ) (w before after : List A) → c ≡ Fine → n ≡ length w → after ≡ filled c w before → take n after ≡ w
 unfolding over

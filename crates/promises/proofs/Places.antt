@@ -1,14 +1,15 @@
 -- Document 02, L6: where it refused. What a refusal names is what the table says of its number (format, Places), for
 -- each entry; and it is the first: all groups before pass, and in the group all channels before.
-use Prim.Native.Nat.{ℕ, _<_}
+use Prim.Native.Nat.{ℕ, _+_, _≤_, _<_}
 use mathlib.Core.Path.{_≡_, refl, sym, ap, _∙_, subst}
 use mathlib.Core.Bool.{Bool, true, false, not, _&&_, cond}
 use mathlib.Core.List.{List, [], _∷_}
 use mathlib.Core.Logic.{_⊎_, ⊎-elim, inl, inr}
+use native.Mathlib.Omega.{arith}
 use lib.ListN.{length}
 use lib.IntN.{ℤ}
 use lib.Dec.{ltb, eqb}
-use borrow.Author.Tests.{ltb-true, not-true}
+use borrow.Author.Tests.{lt-ltb, le-ltb, ltb-true, ltb-false, not-true}
 use Rattle.format.specs.Lists.{every, isIn}
 use Rattle.format.specs.Header.{fieldsOf, groupsOf, groupBytes}
 use Rattle.format.specs.Blocks.{fromBlock}
@@ -20,21 +21,24 @@ use Rattle.format.specs.Answers.{refusedBy}
 use Rattle.format.specs.Opening.{formatOf, badEntry, checkOpen}
 use Rattle.format.specs.Decoding.{checkBlock, checkGroup, checkDecode, decodedCount, checkRoom}
 use Rattle.format.specs.Walking.{stepCount, hasGroup, checkStep, checkStepInto, checkWalk}
+use Rattle.format.specs.FewFrames.{rangeEnd, IsAsked, groupOf, touched, checkFrames, framesCount, checkFramesInto}
 use Rattle.format.specs.Encoding.{framesOf, checkSpec, checkEncoder, checkSamples, checkStereo, checkSize, checkEncode, checkEncodeInto}
 use Rattle.format.specs.Reencoding.{checkReencodeGroup}
 use Rattle.format.specs.Reencoding.{checkTemplate, checkReencoder, checkReencode, checkReencodeInto}
-use Rattle.format.specs.Promises.{Opens, Decodes, Steps, Encodes, Reencodes}
+use Rattle.format.specs.Promises.{Opens, Decodes, Steps, ReadsFrames, Encodes, Reencodes}
 use Rattle.format.specs.declared.refusals.Refusal.{Refusal}
-use Rattle.format.specs.declared.refusals.Refusal.the-variants.{EntryBounds, ParityDiffers, OutputTooShort}
+use Rattle.format.specs.declared.refusals.Refusal.the-variants.{EntryBounds, ParityDiffers, OutputTooShort, RangePastEnd}
 use Rattle.format.specs.declared.refusals.Place.{Place}
 use Rattle.format.specs.declared.refusals.Checked.{Checked}
 use Rattle.format.specs.declared.refusals.Checked.the-variants.{Fine, No}
+use Rattle.format.specs.declared.units.Frames.{Frames}
 use Rattle.format.specs.declared.settings.PcmSpec.{PcmSpec}
 use Rattle.format.specs.declared.settings.StereoMode.{StereoMode}
 use Rattle.format.specs.declared.answers.Fields.{Fields}
 use Rattle.laws.proofs.Tests.{never, and-left, and-right}
-use Rattle.laws.proofs.Checks.{passed, first-fine}
-use Rattle.laws.proofs.Places.{located-no}
+use Rattle.laws.proofs.Checks.{passed, _and-then_, then-assoc, first-fine, others-fine, in-order, order-cong, order-add}
+use Rattle.laws.proofs.Places.{fine-located, located-no}
+use Rattle.laws.proofs.FewFrames.{touchedSteps, touched-asked, touched-within}
 use Rattle.laws.proofs.Located.{Says, says-fine, says-refuse, says-located, says-order, _says-then_, _and-says_, refused-so, first-in}
 use Rattle.laws.proofs.Located.{Only, only-says, block-says, spec-says, samples-say, template-says, reencode-block-says, open-says}
 use Rattle.promises.proofs.Certain.{refused-exactly}
@@ -54,6 +58,10 @@ pub data ByTable (before : Checked) (groups channels : ℕ) (x : Refusal) (at : 
 abbrev pub beforeGroups : PcmSpec → List ℤ → List ℕ → Checked
 beforeGroups p s t = checkReencoder p then checkSamples p s then checkTemplate p s t
 
+-- those of a few frames before the groups: opening's, then 51
+abbrev pub beforeFrames : List ℕ → Frames → Frames → Checked
+beforeFrames s first count = checkOpen s then refuse (ltb (fieldsOf s .frames .0) (rangeEnd first count .0)) RangePastEnd
+
 pub record KeepsTable : Type 0 where
   pub opens : (s : List ℕ) (x : Refusal) (at : Place)
       → Opens s (refusedBy x at)
@@ -70,6 +78,15 @@ pub record KeepsTable : Type 0 where
       → checkOpen s ≡ Fine
       → (x ≡ OutputTooShort → ⊥)
       → at .group ≡ g
+  pub reads-frames : (s : List ℕ) (first count : Frames) (lent after : List ℤ) (x : Refusal) (at : Place)
+      → ReadsFrames s first count lent (refusedBy x at) after
+      → ByTable (beforeFrames s first count) (groupsOf (fieldsOf s .frames)) (fieldsOf s .channels) x at
+  -- and in a group it is that of a frame which is asked for
+  pub reads-frames-group : (s : List ℕ) (first count : Frames) (lent after : List ℤ) (x : Refusal) (at : Place)
+      → ReadsFrames s first count lent (refusedBy x at) after
+      → beforeFrames s first count ≡ Fine
+      → (x ≡ OutputTooShort → ⊥)
+      → (j : ℕ) × IsAsked first count j × (at .group ≡ groupOf j)
   pub encodes : (p : PcmSpec) (mode : StereoMode) (s : List ℤ) (lent after : List ℕ) (x : Refusal) (at : Place)
       → Encodes p mode s lent (refusedBy x at) after
       → IsNamed (groupsOf (framesOf p s)) (p .channels) at (outside (number x))
@@ -94,6 +111,10 @@ groupRead s g = let h = fieldsOf s in checkGroup h (formatOf s h) (groupBytes s 
 abbrev pub blockRead : List ℕ → ℕ → ℕ → Checked
 blockRead s g c = let h = fieldsOf s in checkBlock h (formatOf s h) c (fromBlock (h .depth) (groupBytes s h g) c)
 
+-- what reading frames from `first` on says of group g: of those before that frame's nothing
+abbrev pub touchedRead : List ℕ → Frames → ℕ → Checked
+touchedRead s first g = cond (ltb g (groupOf (first .0))) Fine (groupRead s g)
+
 -- the group of `at` is the first whose entries are bad
 pub record FirstBad (s : List ℕ) (at : Place) : Type 0 where
   pub below : at .group < groupsOf (fieldsOf s .frames)
@@ -108,11 +129,6 @@ abbrev Inner : ℕ → ℕ → Refusal → Place → Type 0
 Inner groups channels r at = (r ≡ OutputTooShort → ⊥) × IsNamed groups channels at (inside (number r))
 
 -- ---- one check after another
-
-then-assoc : (a b c : Checked) → ((a then b) then c) ≡ (a then b then c)
-unfolding _then_
-then-assoc Fine b c = refl
-then-assoc (No r at) b c = refl
 
 refused-not : {A : Type 0} (c : Checked) (x : Refusal) (at : Place) → c ≡ No x at → c ≡ Fine → A
 refused-not c x at e fine = let q : No x at ≡ Fine = sym e ∙ fine in let z : true ≡ false = cc in never z
@@ -134,9 +150,9 @@ module _ (before inner : Checked) (b : Bool) where
       by Fine Fine false e q = e
 
   module _ (groups channels : ℕ) where
-    by-table : Says (Outer groups channels) before → Says (Inner groups channels) inner → Says (ByTable before groups channels) whole
+    by-table : Says (Outer groups channels) before → (before ≡ Fine → Says (Inner groups channels) inner) → Says (ByTable before groups channels) whole
     by-table p q =
-        ((λ r at e. Before e (p r at e)) says-then (λ fine r at e. InGroup fine (q r at e .0) (q r at e .1)))
+        ((λ r at e. Before e (p r at e)) says-then (λ fine r at e. InGroup fine (q fine r at e .0) (q fine r at e .1)))
         says-then (λ fine. says-refuse (ByTable before groups channels) b OutputTooShort (NoRoom (first-fine before inner fine) refl refl))
 
 -- ---- a number that the table does not list
@@ -330,7 +346,7 @@ module _ (s : List ℕ) where
   unfolding checkDecode checkRoom
   decode-table room =
       by-table (checkOpen s) (inOrder (λ g. inGroup g (groupRead s g)) (size s)) (ltb room (decodedCount s .0)) (size s) (fieldsOf s .channels)
-      open-outer (groups-name (fieldsOf s .channels) (blockRead s) (size s) (groupRead s) read-group)
+      open-outer (λ fine. groups-name (fieldsOf s .channels) (blockRead s) (size s) (groupRead s) read-group)
 
   decode-first : (room : ℕ) (x : Refusal) (at : Place) → (checkDecode s then checkRoom s room) ≡ No x at → checkOpen s ≡ Fine → (x ≡ OutputTooShort → ⊥) → First (groupRead s) (blockRead s) x at
   unfolding checkDecode checkRoom
@@ -357,7 +373,7 @@ module _ (s : List ℕ) where
       where
         by : (b : Bool) → hasGroup s g ≡ b → Tabled x at
         by true left =
-            by-table (checkOpen s) (checkStep s g) few (size s) (fieldsOf s .channels) open-outer (decode-inner g (ltb-true g (size s) left)) x at
+            by-table (checkOpen s) (checkStep s g) few (size s) (fieldsOf s .channels) open-outer (λ fine. decode-inner g (ltb-true g (size s) left)) x at
             (sym (walk-is true left) ∙ e)
         by false left =
             (((λ r l q. Before q (open-outer r l q)) and-says says-fine Tabled) and-says says-fine Tabled) x at (sym (walk-is false left) ∙ e)
@@ -371,6 +387,59 @@ module _ (s : List ℕ) where
             let q = only-inner (checkOpen s) (checkStep s g) few x at (sym (walk-is true left) ∙ e) opens other in
             ap (λ (y : Place). y .group) (located-no (atGroup g) (groupRead s g) x at q .2)
         by false left = refused-not _ x at (sym (walk-is false left) ∙ e) (ap (λ (o : Checked). (o then Fine) then Fine) opens)
+
+  -- a few frames: of the groups touched
+  module _ (first count : Frames) where
+    abbrev least : ℕ
+    least = groupOf (first .0)
+
+    abbrev those : Checked
+    those = touchedSteps s first count
+
+    frames-is : (room : ℕ) → checkFramesInto s first count room ≡ ((beforeFrames s first count then those) then refuse (ltb room (framesCount s count .0)) OutputTooShort)
+    unfolding checkFramesInto checkFrames
+    frames-is room = ap (λ (c : Checked). c then refuse (ltb room (framesCount s count .0)) OutputTooShort) (sym (then-assoc (checkOpen s) _ those))
+
+    frames-inner : beforeFrames s first count ≡ Fine → Says (Inner (size s) (fieldsOf s .channels)) those
+    frames-inner fine =
+        let within = ltb-false (fieldsOf s .frames .0) (rangeEnd first count .0) (passed _ RangePastEnd (others-fine (checkOpen s) _ fine)) in
+        let below = touched-within first count (fieldsOf s .frames) within in
+        says-order (Inner (size s) (fieldsOf s .channels)) (λ k. checkStep s (least + k)) (touched first count) (λ k l. decode-inner (least + k) (omega arith))
+
+    frames-table : (room : ℕ) → Says (ByTable (beforeFrames s first count) (size s) (fieldsOf s .channels)) (checkFramesInto s first count room)
+    unfolding isIn
+    frames-table room x at e =
+        by-table (beforeFrames s first count) those (ltb room (framesCount s count .0)) (size s) (fieldsOf s .channels)
+        (open-outer and-says says-refuse (Outer (size s) (fieldsOf s .channels)) _ RangePastEnd (none (size s) (fieldsOf s .channels) RangePastEnd refl)) frames-inner
+        x at (sym (frames-is room) ∙ e)
+
+    -- refused in a group
+    module _ (room : ℕ) (x : Refusal) (at : Place) (e : checkFramesInto s first count room ≡ No x at) (fine : beforeFrames s first count ≡ Fine) (other : x ≡ OutputTooShort → ⊥) where
+      in-touched : those ≡ No x at
+      in-touched = only-inner (beforeFrames s first count) those (ltb room (framesCount s count .0)) x at (sym (frames-is room) ∙ e) fine other
+
+      frames-group : (j : ℕ) × IsAsked first count j × (at .group ≡ groupOf j)
+      unfolding checkStep
+      frames-group =
+          let f = first-in (λ k. groupRead s (least + k)) (λ k. atGroup (least + k)) (touched first count) x at in-touched in
+          let j = touched-asked first count (f .index) (f .below) in
+          (j .0, j .1, ap (λ (y : Place). y .group) (f .moved) ∙ sym (j .2))
+
+      -- the groups before the first frame's say nothing
+      with-earlier : inOrder (λ g. inGroup g (touchedRead s first g)) (least + touched first count) ≡ those
+      unfolding checkStep
+      with-earlier =
+          order-add (λ g. inGroup g (touchedRead s first g)) least (touched first count)
+          ∙ (in-order _ least (λ g l. fine-located (atGroup g) _ (ap (λ (b : Bool). cond b Fine (groupRead s g)) (lt-ltb g least l)))
+          and-then order-cong _ _ (touched first count)
+          (λ k l. let m : least ≤ least + k = omega arith in ap (λ (b : Bool). inGroup (least + k) (cond b Fine (groupRead s (least + k)))) (le-ltb (least + k) least m)))
+
+      frames-first : First (touchedRead s first) (blockRead s) x at
+      frames-first = groups-first (fieldsOf s .channels) (blockRead s) (least + touched first count) (touchedRead s first) (λ g. by (ltb g least) g) x at (with-earlier ∙ in-touched)
+        where
+          by : (b : Bool) (g : ℕ) → Says (OfGroup (fieldsOf s .channels) (blockRead s) g) (cond b Fine (groupRead s g))
+          by true g = says-fine (OfGroup (fieldsOf s .channels) (blockRead s) g)
+          by false g = read-group g
 
 -- re-encoding
 module _ (p : PcmSpec) (s : List ℤ) (t : List ℕ) where
@@ -405,7 +474,7 @@ module _ (p : PcmSpec) (s : List ℤ) (t : List ℕ) where
   pub reencode-table : (room : ℕ) → Says (ByTable (beforeGroups p s t) (groupsOf (fieldsOf t .frames)) (fieldsOf t .channels)) (checkReencodeInto p s t room)
   reencode-table room x at e =
       by-table (beforeGroups p s t) inner (ltb room (length t)) groups channels (before-none groups channels p s t)
-      (groups-name channels (blockSays p s t) groups (groupSays p s t) new-group) x at (sym (into-is room) ∙ e)
+      (λ fine. groups-name channels (blockSays p s t) groups (groupSays p s t) new-group) x at (sym (into-is room) ∙ e)
 
   reencode-first : (room : ℕ) (x : Refusal) (at : Place) → checkReencodeInto p s t room ≡ No x at → beforeGroups p s t ≡ Fine → (x ≡ OutputTooShort → ⊥) → First (groupSays p s t) (blockSays p s t) x at
   reencode-first room x at e fine other =
@@ -421,6 +490,9 @@ keeps-table =
       decodes = λ s lent after x at d. decode-table s (length lent) x at (refused-exactly .decodes s lent after (refusedBy x at) x at d .0 refl);
       steps = λ s g lent after x at d. step-table s g (length lent) x at (refused-exactly .steps s g lent after (refusedBy x at) x at d .0 refl);
       steps-group = λ s g lent after x at d. step-group s g (length lent) x at (refused-exactly .steps s g lent after (refusedBy x at) x at d .0 refl);
+      reads-frames = λ s first count lent after x at d. frames-table s first count (length lent) x at (refused-exactly .reads-frames s first count lent after (refusedBy x at) x at d .0 refl);
+      reads-frames-group = λ s first count lent after x at d.
+          frames-group s first count (length lent) x at (refused-exactly .reads-frames s first count lent after (refusedBy x at) x at d .0 refl);
       encodes = λ p mode s lent after x at e. encode-names p mode s (length lent) x at (refused-exactly .encodes p mode s lent after (refusedBy x at) x at e .0 refl);
       reencodes = λ p s t lent after x at e. reencode-table p s t (length lent) x at (refused-exactly .reencodes p s t lent after (refusedBy x at) x at e .0 refl);
     }
@@ -438,6 +510,16 @@ pub first-decodes : (s : List ℕ) (lent after : List ℤ) (x : Refusal) (at : P
     → (x ≡ OutputTooShort → ⊥)
     → First (groupRead s) (blockRead s) x at
 first-decodes s lent after x at d = decode-first s (length lent) x at (refused-exactly .decodes s lent after (refusedBy x at) x at d .0 refl)
+
+-- where the file opens and has the frames, and reading them refuses, not for want of room, it names the first of the
+-- groups touched
+pub first-reads-frames : (s : List ℕ) (first count : Frames) (lent after : List ℤ) (x : Refusal) (at : Place)
+    → ReadsFrames s first count lent (refusedBy x at) after
+    → beforeFrames s first count ≡ Fine
+    → (x ≡ OutputTooShort → ⊥)
+    → First (touchedRead s first) (blockRead s) x at
+first-reads-frames s first count lent after x at d =
+    frames-first s first count (length lent) x at (refused-exactly .reads-frames s first count lent after (refusedBy x at) x at d .0 refl)
 
 -- where re-encoding comes to the template's groups and refuses, not for want of room, it names the first
 pub first-reencodes : (p : PcmSpec) (s : List ℤ) (t lent after : List ℕ) (x : Refusal) (at : Place)

@@ -108,7 +108,7 @@ module _ (p : PcmSpec) (s : List ℤ) (t : List ℕ) (ok : checkReencode p s t �
   unfolding from
   front-same i k l =
       ap (from i k) (F.file-is p s t ok) ∙ from-within i k front (joined part count ++ back) (omega (arith, F.front-length p s t ok))
-      ∙ from-from i k 0 (h .start) t l (omega (arith, F.end-ok p s t template)) ∙ ap (λ (x : ℕ). from x k t) zero-plus
+      ∙ from-from i k 0 (h .start) t l ∙ ap (λ (x : ℕ). from x k t) zero-plus
     where
       zero-plus : 0 + i ≡ i
       zero-plus = omega arith

@@ -32,7 +32,7 @@ use Rattle.format.specs.declared.answers.Outcome.{Outcome}
 use Rattle.format.specs.declared.answers.Outcome.the-variants.{Read, Finished}
 use Rattle.format.specs.declared.answers.Answer.{Answer}
 use Rattle.laws.proofs.Tests.{never}
-use Rattle.laws.proofs.Checks.{pass, first-fine, others-fine}
+use Rattle.laws.proofs.Checks.{pass, then-fine, first-fine, others-fine}
 use Rattle.laws.proofs.Places.{located-fine}
 use Rattle.laws.proofs.Opened.{opened-fields, some-channels}
 use Rattle.laws.proofs.Lengths.{group-writes}
@@ -152,12 +152,7 @@ module _ (s : List ℕ) (g : ℕ) (lent after : List ℤ) (r : Answer) (opens : 
 
 -- where there is room, only what comes before it is checked
 pub room-passes : (c : Checked) (room m : ℕ) (x : Refusal) → m ≤ room → (c then refuse (ltb room m) x) ≡ c
-unfolding _then_
-room-passes c room m x l = ap (λ (k : Checked). c then k) (pass _ x (le-ltb room m l)) ∙ by c
-  where
-    by : (k : Checked) → (k then Fine) ≡ k
-    by Fine = refl
-    by (No r at) = refl
+room-passes c room m x l = ap (λ (k : Checked). c then k) (pass _ x (le-ltb room m l)) ∙ then-fine c
 
 -- a refusal that is not for want of room is said in any room
 pub any-room : (s : List ℕ) (g room room′ : ℕ) (x : Refusal) (at : Place) → (x ≡ OutputTooShort → ⊥) → checkWalk s g room ≡ No x at → checkWalk s g room′ ≡ No x at

@@ -1,3 +1,2 @@
--- the groups put one behind another; what decoding answers at each way out
-pub mod Written
+-- what decoding answers at each way out
 pub mod Ways

@@ -1,7 +1,8 @@
 -- What decoding answers at each way out, from what the calls' contracts and the matches give.
-use Prim.Native.Nat.{ℕ, _*_, _≤_, _<_}
+use Prim.Native.Nat.{ℕ, _+_, _*_, _≤_, _<_}
 use mathlib.Core.Path.{_≡_, refl, sym, ap, _∙_}
 use mathlib.Core.List.{List}
+use native.Mathlib.Nat.{zero-add}
 use native.Mathlib.Omega.{arith}
 use lib.ListN.{length}
 use lib.IntN.{ℤ}
@@ -11,7 +12,8 @@ use Rattle.format.specs.Refusals.{nowhere, _then_, inOrder}
 use Rattle.format.specs.Places.{inGroup}
 use Rattle.format.specs.Answers.{answeredBy, refusedBy}
 use Rattle.format.specs.Opening.{formatOf, checkOpen}
-use Rattle.format.specs.Decoding.{checkGroup, checkDecode, checkRoom, decodedOf, decodedCount, decodeOf, decodeInto}
+use Rattle.format.specs.Decoding.{checkGroup, checkDecode, checkRoom, decodedCount, decodeOf, decodeInto}
+use Rattle.format.specs.FewFrames.{checkFrames, framesAt}
 use Rattle.format.specs.Units.{samplesIn}
 use Rattle.format.specs.declared.refusals.Refusal.{Refusal}
 use Rattle.format.specs.declared.refusals.Refusal.the-variants.{OutputTooShort}
@@ -23,13 +25,18 @@ use Rattle.format.specs.declared.units.Samples.{Samples}
 use Rattle.format.specs.declared.answers.Fields.{Fields}
 use Rattle.format.specs.declared.answers.Answer.{Answer}
 use Rattle.format.specs.declared.answers.Outcome.the-variants.{Read}
-use Rattle.laws.proofs.Checks.{first-fine, has-room}
+use Rattle.laws.proofs.Checks.{first-fine, has-room, order-cong}
 use Rattle.laws.proofs.Chain.{stops-at, room-short, room-enough}
 use Rattle.laws.proofs.Opened.{opened-long}
+use Rattle.laws.proofs.FewFrames.{frames, frames-all, checks-all}
 
 -- how many samples that is, by the header
 count-is : (s : List ℕ) (h : Fields) → h ≡ fieldsOf s → (n : Samples) → n ≡ samplesIn (h .frames) (h .channels) → n ≡ decodedCount s
 count-is s h reads n counts = counts ∙ rw reads refl
+
+-- from the first group on, all of them
+pub groups-there : (h : Fields) (groups : ℕ) → groups ≡ groupsOf (h .frames) → 0 + groups ≤ groupsOf (h .frames)
+groups-there h groups all = omega arith
 
 -- ---- the checks: a is what opening says
 module _ (s : List ℕ) (room : ℕ) (a : Checked) (says : a ≡ checkOpen s) where
@@ -38,11 +45,13 @@ module _ (s : List ℕ) (room : ℕ) (a : Checked) (says : a ≡ checkOpen s) wh
   open-refused r at e = rw (← says, e)
 
   -- k what the groups say
-  module _ (fine : a ≡ Fine) (h : Fields) (reads : h ≡ fieldsOf s) (f : SampleFormat) (format : f ≡ formatOf s h)
-      (k : Checked) (checked : k ≡ inOrder (λ g. inGroup g (checkGroup h f (groupBytes s h g))) (groupsOf (h .frames))) where
+  module _ (fine : a ≡ Fine) (h : Fields) (reads : h ≡ fieldsOf s) (groups : ℕ) (all : groups ≡ groupsOf (h .frames)) (f : SampleFormat) (format : f ≡ formatOf s h)
+      (k : Checked) (checked : k ≡ inOrder (λ g. inGroup (0 + g) (checkGroup h f (groupBytes s h (0 + g)))) groups) where
     all-say : k ≡ checkDecode s
     unfolding checkDecode _then_
-    all-say = rw (← says, fine, ← reads, ← format) checked
+    all-say =
+        let each = order-cong (λ g. inGroup (0 + g) (checkGroup h f (groupBytes s h (0 + g)))) (λ g. inGroup g (checkGroup h f (groupBytes s h g))) groups (λ g l. rw zero-add) in
+        rw (← says, fine, ← reads, ← format, ← all) (checked ∙ each)
 
     pub groups-refused : (r : Refusal) (at : Place) → k ≡ No r at → No r at ≡ (checkDecode s then checkRoom s room)
     groups-refused r at e = stops-at k (checkDecode s) all-say _ r at e
@@ -80,6 +89,10 @@ module _ (s : List ℕ) (c : ℕ) (k : Checked) (says : k ≡ (checkDecode s the
     pub decode-fields : 32 ≤ length s
     decode-fields = omega (arith, opened-long s decode-opens)
 
+    -- all frames, from the first on
+    pub all-passes : (h : Fields) → h ≡ fieldsOf s → checkFrames s (frames 0) (h .frames) ≡ Fine
+    all-passes h reads = rw reads (checks-all s ∙ decode-fine)
+
     pub room-for-all : (h : Fields) → h ≡ fieldsOf s → (room : ℕ) → c ≡ room → h .frames .0 * h .channels ≤ room
     unfolding checkRoom
     room-for-all h reads room lent = rw reads (omega (arith, has-room (checkDecode s) c (decodedCount s .0) OutputTooShort (sym says ∙ fine)))
@@ -89,6 +102,6 @@ module _ (s : List ℕ) (c : ℕ) (k : Checked) (says : k ≡ (checkDecode s the
     unfolding decodeOf
     reads-all room lent h reads n counts x t = rw (← lent, ← says, fine) (t ∙ ap (λ (m : Samples). answeredBy (Read m)) (count-is s h reads n counts))
 
-    pub writes-all : (out after : List ℤ) → c ≡ length out → after ≡ over (decodedOf s) out → after ≡ decodeInto s out
+    pub writes-all : (out after : List ℤ) → c ≡ length out → (h : Fields) → h ≡ fieldsOf s → after ≡ over (framesAt s (frames 0) (h .frames)) out → after ≡ decodeInto s out
     unfolding decodeInto
-    writes-all out after lent t = rw (← lent, ← says, fine) t
+    writes-all out after lent h reads t = rw (← lent, ← says, fine) (t ∙ ap (λ (xs : List ℤ). over xs out) (rw reads (frames-all s)))

@@ -1,11 +1,10 @@
 // Decoding: reader.rs of the Rust. Every refusal is found first; then samples are put.
 mod checking;
-mod putting;
 
-use crate::putting::put_groups;
 pub use checking::check_decode;
 use format::Answer;
 use format::Checked;
+use format::Frames;
 use format::Outcome;
 use lent_samples::Container;
 ghost use mathlib.Core.Path.{_≡_};
@@ -24,8 +23,17 @@ pub fn decode_lent(which: Container, file: &[u8], words: &mut [i32], bytes: &mut
         return Answer::refused(r, place);
     }
     let h = header::read_fields(file);
-    put_groups(which, words, bytes, file, h, opening::format_of(file, h));
     let frames = h.frames;
+    groups::put_frames(
+        which,
+        words,
+        bytes,
+        file,
+        h,
+        opening::format_of(file, h),
+        Frames(0),
+        frames,
+    );
     Answer::of(Outcome::Read(frames.samples(h.channels)))
 }
 

@@ -2,6 +2,7 @@
 use crate::items::NOWHERE;
 use crate::items::Place;
 use crate::items::part;
+use format::Frames;
 use format::PcmSpec;
 use replay_counts::COUNTS;
 use replay_list::MOST_SAMPLES;
@@ -23,7 +24,7 @@ fn words_of(room: &[i32], n: usize) -> usize
     if n < room.len() { n } else { room.len() }
 }
 
-// `open`, `decode`, `step`, `encode` and `reencode` ask one question each.
+// `open`, `decode`, `step`, `read_frames`, `encode` and `reencode` ask one question each.
 fn open(list: i32, place: Place, file: &[u8]) -> Verdict {
     let n = part(file, place.file);
     replay_reading::open(list, &file[..n])
@@ -49,6 +50,30 @@ fn step(list: i32, place: Place, file: &[u8], words: &mut [i32]) -> Verdict {
     let n = part(file, place.file);
     let m = words_of(words, asked);
     replay_reading::step(list, &file[..n], group, place.spoiled, &mut words[..m])
+}
+
+fn read_frames(
+    list: i32,
+    place: Place,
+    file: &[u8],
+    words: &mut [i32],
+    bytes: &mut [u8],
+) -> Verdict {
+    let first = Frames(read_u32(list));
+    let count = Frames(read_u32(list));
+    let asked = read_u16(list) as usize;
+    let n = part(file, place.file);
+    let m = words_of(words, asked);
+    let k = part(bytes, 4 * asked);
+    replay_reading::read_frames(
+        list,
+        &file[..n],
+        first,
+        count,
+        place.spoiled,
+        &mut words[..m],
+        &mut bytes[..k],
+    )
 }
 
 // The settings that the list has put.
@@ -108,7 +133,8 @@ fn ask(
         kinds::DECODE => decode(list, place, file, words, read),
         kinds::STEP => step(list, place, file, words),
         kinds::ENCODE => encode(list, place, samples, written),
-        _ => reencode(list, place, samples, file, written),
+        kinds::REENCODE => reencode(list, place, samples, file, written),
+        _ => read_frames(list, place, file, words, read),
     }
 }
 
@@ -146,7 +172,7 @@ pub fn answer(
     if kind < kinds::OPEN {
         return place;
     }
-    if kinds::REENCODE < kind {
+    if kinds::READ_FRAMES < kind {
         return place;
     }
     let verdict = ask(list, kind, place, file, samples, words, read, written);

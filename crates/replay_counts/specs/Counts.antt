@@ -5,22 +5,22 @@ use mathlib.Core.Bool.{Bool, cond}
 use lib.ListN.{getD, set}
 use Rattle.replay_list.specs.declared.answers.Verdict.{Verdict}
 
--- the place of an answer: 256 numbers for each question, of the kinds 16 (OPEN) to 20 (REENCODE)
+-- the place of an answer: 256 numbers for each question, of the kinds 16 (OPEN) to 21 (READ_FRAMES)
 abbrev pub placeOf : ℕ → ℕ → ℕ
 placeOf kind number = kind % 16 * 256 + number % 256
 
 -- the places of the sums: answers as recorded, others, false ones on purpose, and those that were found
 abbrev pub asRecorded : ℕ
-asRecorded = 1280
+asRecorded = 1536
 
 abbrev pub others : ℕ
-others = 1281
+others = 1537
 
 abbrev pub falseOnes : ℕ
-falseOnes = 1282
+falseOnes = 1538
 
 abbrev pub found : ℕ
-found = 1283
+found = 1539
 
 -- the count at that place is one more, modulo 2 ^ 64; where there is no such place, all is as it was
 unfoldable pub counted : List ℕ → ℕ → List ℕ

@@ -11,20 +11,20 @@ ghost use mathlib.Core.Path.{_≡_};
 ghost use lib.ListN.{getD};
 ghost use Rattle.replay_counts.specs.Counts.{placeOf, others, counted, talliedFalse, tallied};
 
-// Room for the counts: of 5 questions 256 numbers each, and behind these the four sums; the rest is not used.
-pub const COUNTS: usize = 1536;
+// Room for the counts: of 6 questions 256 numbers each, and behind these the four sums; the rest is not used.
+pub const COUNTS: usize = 1792;
 
 // Refusals have the numbers from this one to the one before `DONE`.
 const FIRST_REFUSAL: u32 = ACCEPTED + 1;
 
 // The places of the sums.
-const AS_RECORDED: usize = 1280;
+const AS_RECORDED: usize = 1536;
 
-const OTHERS: usize = 1281;
+const OTHERS: usize = 1537;
 
-const FALSE: usize = 1282;
+const FALSE: usize = 1538;
 
-const FOUND: usize = 1283;
+const FOUND: usize = 1539;
 
 // One more at that place, where there is one.
 fn count(counts: &mut [u64], at: usize)
@@ -132,6 +132,7 @@ pub fn print_counts(counts: &[u64; COUNTS]) {
     print_question(counts, kinds::STEP, b"stepping");
     print_question(counts, kinds::ENCODE, b"encoding");
     print_question(counts, kinds::REENCODE, b"re-encoding");
+    print_question(counts, kinds::READ_FRAMES, b"reading frames");
     print_number(count_of(counts, AS_RECORDED));
     print(b" answers as recorded, ");
     print_number(count_of(counts, OTHERS));

@@ -24,7 +24,7 @@ pub const KEEP_READ: u32 = 8;
 // Channels, depth and rate for encoding and re-encoding.
 pub const SETTINGS: u32 = 9;
 
-// The questions: `OPEN` is the first, `REENCODE` the last.
+// The questions: `OPEN` is the first, `READ_FRAMES` the last.
 pub const OPEN: u32 = 16;
 
 pub const DECODE: u32 = 17;
@@ -34,6 +34,8 @@ pub const STEP: u32 = 18;
 pub const ENCODE: u32 = 19;
 
 pub const REENCODE: u32 = 20;
+
+pub const READ_FRAMES: u32 = 21;
 
 // Of the next question, the recorded answer is false on purpose, or a sample of its room is changed on purpose.
 pub const FALSE_ANSWER: u32 = 32;

@@ -1,5 +1,5 @@
-// Opening, decoding and a step of a walk, each asked of the proved entry and, where it has one, of the host boundary:
-// whether all answer as recorded.
+// Opening, decoding, reading a few frames and a step of a walk, each asked of the proved entry and, where it has one,
+// of the host boundary: whether all answer as recorded.
 use format::Answer;
 use format::Frames;
 use format::Header;
@@ -24,13 +24,11 @@ use replay_list::spoil;
 use replay_list::word_of;
 ghost use mathlib.Core.Path.{_≡_};
 ghost use lib.ListN.{length};
-ghost use Rattle.format.specs.Decoding.{decodeOf, decodeInto};
-ghost use Rattle.format.specs.Boundary.{hostDecode, hostDecodeInto};
-ghost use Rattle.replay_list.specs.Said.{saidBy, saidByHost, verdictOf};
+ghost use Rattle.replay_list.specs.Said.{verdictOf};
 ghost use Rattle.replay_reading.specs.Opened.{numberOf, isHeader, isOpened, isLength, isRefused};
 ghost use Rattle.replay_reading.specs.Opened.{bothOpen, openingNumber, openingVerdict};
-ghost use Rattle.replay_reading.specs.Decoded.{decodedWords, entryDecodes, decodedBytes, hostDecodes};
-ghost use Rattle.replay_reading.specs.Decoded.{hostTells, bothDecode};
+ghost use Rattle.replay_reading.specs.Read.{entrySays, entryPuts, hostSays, hostPuts, hostTells};
+ghost use Rattle.replay_reading.specs.Read.{entryReads, leftByEntry, hostReads, leftByHost, bothRead};
 ghost use Rattle.replay_reading.specs.Stepped.{steppedWords, stepsTo};
 
 // What was recorded of a file that opens: its header's numbers.
@@ -169,66 +167,90 @@ pub fn open(list: i32, file: &[u8]) -> Verdict {
     judge_open(file, want)
 }
 
-fn decode_words(file: &[u8], room: &mut [i32]) -> Said
-    ensures says { λ r. ⌜ r ≡ saidBy (decodeOf (now (file .entry)) (length (now (room .entry)))) ⌝ }
-    ensures puts { λ _. ⌜ now (room .exit) ≡ decodeInto (now (file .entry)) (now (room .entry)) ⌝ }
-{
-    of_answer(reader::decode_samples(file, room))
+// How a file is read: decoded whole, or a range of its frames, by the first and how many.
+enum Way {
+    Decode,
+    Range(Frames, Frames),
 }
 
-// The entry decodes into a room of samples, which is changed at `spoiled` before it is compared.
-fn decode_by_entry(file: &[u8], spoiled: usize, room: &mut [i32], want: Recorded) -> bool
-    ensures says { λ r. ⌜ r ≡ entryDecodes (now (file .entry)) spoiled want (now (room .entry)) ⌝ }
-    ensures leaves { λ _. ⌜ now (room .exit) ≡ decodedWords (now (file .entry)) spoiled (now (room .entry)) ⌝ }
+// The entry reads into the room: what it says.
+fn read_words(way: Way, file: &[u8], room: &mut [i32]) -> Said
+    ensures says { λ r. ⌜ r ≡ entrySays way (now (file .entry)) (length (now (room .entry))) ⌝ }
+    ensures puts { λ _. ⌜ now (room .exit) ≡ entryPuts way (now (file .entry)) (now (room .entry)) ⌝ }
+{
+    match way {
+        Way::Decode => of_answer(reader::decode_samples(file, room)),
+        Way::Range(first, count) => of_answer(few_frames::read_frames(file, first, count, room)),
+    }
+}
+
+// Whether the entry answers as recorded, in a room of samples, which is changed at `spoiled` before it is compared.
+fn read_by_entry(way: Way, file: &[u8], spoiled: usize, room: &mut [i32], want: Recorded) -> bool
+    ensures says { λ r. ⌜ r ≡ entryReads way (now (file .entry)) spoiled want (now (room .entry)) ⌝ }
+    ensures leaves { λ _. ⌜ now (room .exit) ≡ leftByEntry way (now (file .entry)) spoiled (now (room .entry)) ⌝ }
 {
     fill(Container::Words, room, &mut []);
-    let said = decode_words(file, room);
+    let said = read_words(way, file, room);
     spoil(Container::Words, room, &mut [], spoiled);
     is_recorded(said, want, Container::Words, room, &[])
 }
 
-fn decode_bytes(file: &[u8], room: &mut [u8], want: Recorded) -> Said
-    ensures says { λ r. ⌜ r ≡ saidByHost (hostDecode (now (file .entry)) (length (now (room .entry)))) want ⌝ }
-    ensures puts { λ _. ⌜ now (room .exit) ≡ hostDecodeInto (now (file .entry)) (now (room .entry)) ⌝ }
+// The host boundary reads into the room. What was recorded is taken for what it does not tell.
+fn read_bytes(way: Way, file: &[u8], room: &mut [u8], want: Recorded) -> Said
+    ensures says { λ r. ⌜ r ≡ hostSays way (now (file .entry)) want (length (now (room .entry))) ⌝ }
+    ensures puts { λ _. ⌜ now (room .exit) ≡ hostPuts way (now (file .entry)) (now (room .entry)) ⌝ }
 {
-    of_result(ncw::ncw_decode(file, room), want)
+    match way {
+        Way::Decode => of_result(ncw::ncw_decode(file, room), want),
+        Way::Range(first, count) => of_result(
+            ncw::ncw_read_frames(file, first.0, count.0, room),
+            want,
+        ),
+    }
 }
 
-// Whether the host boundary tells what it refuses in so many bytes of room, and where, as recorded.
-fn host_tells(file: &[u8], room: u64, want: Recorded) -> bool
-    ensures { λ r. ⌜ r ≡ hostTells (now (file .entry)) room want ⌝ }
+// Whether the host boundary tells what it refuses in so many bytes of room, and where, as recorded. Of frames it tells
+// no more than its number: that counts as recorded.
+fn host_tells(way: Way, file: &[u8], room: u64, want: Recorded) -> bool
+    ensures { λ r. ⌜ r ≡ hostTells way (now (file .entry)) room want ⌝ }
 {
-    let told = ncw::ncw_decode_refusal(file, room);
-    let recorded = word_of(want);
-    told == recorded
+    match way {
+        Way::Decode => {
+            let told = ncw::ncw_decode_refusal(file, room);
+            let recorded = word_of(want);
+            told == recorded
+        }
+        Way::Range(_, _) => true,
+    }
 }
 
-// The host boundary tells what it refuses, and decodes into a room of bytes.
-fn decode_by_host(file: &[u8], spoiled: usize, room: &mut [u8], want: Recorded) -> bool
-    ensures says { λ r. ⌜ r ≡ hostDecodes (now (file .entry)) spoiled want (now (room .entry)) ⌝ }
-    ensures leaves { λ _. ⌜ now (room .exit) ≡ decodedBytes (now (file .entry)) spoiled (now (room .entry)) ⌝ }
+// Whether the host boundary answers as recorded, in a room of bytes, and tells what it refuses.
+fn read_by_host(way: Way, file: &[u8], spoiled: usize, room: &mut [u8], want: Recorded) -> bool
+    ensures says { λ r. ⌜ r ≡ hostReads way (now (file .entry)) spoiled want (now (room .entry)) ⌝ }
+    ensures leaves { λ _. ⌜ now (room .exit) ≡ leftByHost way (now (file .entry)) spoiled (now (room .entry)) ⌝ }
 {
-    let is_told = host_tells(file, room.len() as u64, want);
+    let is_told = host_tells(way, file, room.len() as u64, want);
     fill_bytes(room);
-    let said = decode_bytes(file, room, want);
+    let said = read_bytes(way, file, room, want);
     is_answered(said, spoiled, room, want) & is_told
 }
 
 // Both are asked, each in a room of its own.
-fn judge_decode(
+fn judge_read(
+    way: Way,
     file: &[u8],
     spoiled: usize,
     words: &mut [i32],
     bytes: &mut [u8],
     want: Recorded,
 ) -> Verdict
-    ensures says { λ r. ⌜ (let same = bothDecode (now (file .entry)) spoiled want
+    ensures says { λ r. ⌜ (let same = bothRead way (now (file .entry)) spoiled want
         (now (words .entry)) (now (bytes .entry)) in r ≡ verdictOf same want) ⌝ }
-    ensures leaves { λ _. ⌜ now (words .exit) ≡ decodedWords (now (file .entry)) spoiled (now (words .entry)) ⌝ }
-    ensures writes { λ _. ⌜ now (bytes .exit) ≡ decodedBytes (now (file .entry)) spoiled (now (bytes .entry)) ⌝ }
+    ensures leaves { λ _. ⌜ now (words .exit) ≡ leftByEntry way (now (file .entry)) spoiled (now (words .entry)) ⌝ }
+    ensures writes { λ _. ⌜ now (bytes .exit) ≡ leftByHost way (now (file .entry)) spoiled (now (bytes .entry)) ⌝ }
 {
-    let by_entry = decode_by_entry(file, spoiled, words, want);
-    let by_host = decode_by_host(file, spoiled, bytes, want);
+    let by_entry = read_by_entry(way, file, spoiled, words, want);
+    let by_host = read_by_host(way, file, spoiled, bytes, want);
     judged(by_entry & by_host, want)
 }
 
@@ -242,7 +264,21 @@ pub fn decode(
     bytes: &mut [u8],
 ) -> Verdict {
     let want = read_recorded(list, true);
-    judge_decode(file, spoiled, words, bytes, want)
+    judge_read(Way::Decode, file, spoiled, words, bytes, want)
+}
+
+// The same of so many frames, from a first one on.
+pub fn read_frames(
+    list: i32,
+    file: &[u8],
+    first: Frames,
+    count: Frames,
+    spoiled: usize,
+    words: &mut [i32],
+    bytes: &mut [u8],
+) -> Verdict {
+    let want = read_recorded(list, true);
+    judge_read(Way::Range(first, count), file, spoiled, words, bytes, want)
 }
 
 // The walk stands at a group, and after the step is to stand at `next`.

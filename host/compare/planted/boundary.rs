@@ -15,6 +15,18 @@ pub fn decode(file: &[u8], samples: &mut [u8]) -> u64 {
     spoiled(ours::boundary::decode(file, samples), samples)
 }
 
+pub fn read_frames(file: &[u8], first: u32, count: u32, samples: &mut [u8]) -> u64 {
+    read_past(file);
+    let answer = ours::boundary::read_frames(file, first, count, samples);
+    spoil_input("a byte of the file changed", file);
+    match planted() {
+        "a byte behind the data decides" if file.last().is_some_and(|byte| byte & 1 == 1) => spoil(samples.first_mut()),
+        "a byte of the unknown header decides" if file.get(40).is_some_and(|byte| byte & 1 == 1) => return REFUSED + 3,
+        _ => (),
+    }
+    spoiled(answer, samples)
+}
+
 pub fn encode(samples: &[u8], channels: u16, depth: u16, rate: u32, mode: u32, file: &mut [u8]) -> u64 {
     read_past(samples);
     let answer = ours::boundary::encode(samples, channels, depth, rate, mode, file);

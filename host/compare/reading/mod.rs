@@ -1,11 +1,11 @@
 //! Files, opened and decoded. A file is its bytes.
 mod answers;
 mod check;
-mod families;
+pub mod families;
 mod rooms;
 mod shrink;
-mod sides;
-mod watched;
+pub mod sides;
+pub mod watched;
 
 use crate::families::Family;
 use crate::input::{Difference, Input};

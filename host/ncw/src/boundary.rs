@@ -1,4 +1,4 @@
-//! The six calls of the archive as they are. Four answer a length in bytes, or [`REFUSED`] plus the number of a refusal. The two
+//! The seven calls of the archive as they are. Five answer a length in bytes, or [`REFUSED`] plus the number of a refusal. The two
 //! others write nothing, and answer where a refusal is.
 //!
 //! All that is `unsafe` in this crate is here.
@@ -17,6 +17,14 @@ pub const REFUSED: u64 = 1 << 63;
 extern "C" {
     fn ncw_open(file: *const u8, file_len: usize) -> u64;
     fn ncw_decode(file: *const u8, file_len: usize, samples: *mut u8, samples_len: usize) -> u64;
+    fn ncw_read_frames(
+        file: *const u8,
+        file_len: usize,
+        first: u32,
+        count: u32,
+        samples: *mut u8,
+        samples_len: usize,
+    ) -> u64;
     fn ncw_encode(
         samples: *const u8,
         samples_len: usize,
@@ -63,6 +71,16 @@ pub fn decode(file: &[u8], samples: &mut [u8]) -> u64 {
     // SAFETY: the call reads the bytes of `file`, writes bytes of `samples`, touches no others, and keeps nothing of them.
     // The borrows keep the two apart.
     unsafe { ncw_decode(file.as_ptr(), file.len(), samples.as_mut_ptr(), samples.len()) }
+}
+
+/// Reads `count` frames of a file, from the frame `first` on: how many bytes of `samples` were written, from the first on, as by
+/// [`decode`]. Groups of the file that have none of these frames are not looked at, but for the first block's signature and flags.
+/// Where it refuses none is changed, and what lies after the written ones stays.
+pub fn read_frames(file: &[u8], first: u32, count: u32, samples: &mut [u8]) -> u64 {
+    let room = samples.as_mut_ptr();
+    // SAFETY: the call reads the bytes of `file`, writes bytes of `samples`, touches no others, and keeps nothing of them.
+    // The borrows keep the two apart.
+    unsafe { ncw_read_frames(file.as_ptr(), file.len(), first, count, room, samples.len()) }
 }
 
 /// Encodes samples, 4 bytes each with the lowest first: how many bytes of `file` were written, from the first on. `mode` is 0 for

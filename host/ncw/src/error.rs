@@ -21,7 +21,7 @@ pub enum NcwError {
 }
 
 /// Every refusal of reading and of writing.
-const REFUSALS: [(u32, &str); 35] = [
+const REFUSALS: [(u32, &str); 36] = [
     (1, "the input ends too soon"),
     (2, "wrong file signature"),
     (3, "wrong block signature"),
@@ -57,6 +57,7 @@ const REFUSALS: [(u32, &str); 35] = [
     (45, "template flags above 1"),
     (46, "bytes left in a template group"),
     (50, "lent output too short"),
+    (51, "first frame plus count over the file's frames"),
 ];
 
 /// What no number stands for.

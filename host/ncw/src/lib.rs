@@ -4,6 +4,7 @@
 pub mod boundary;
 mod error;
 mod opened;
+mod pieces;
 mod reader;
 mod refused;
 mod slices;
@@ -11,7 +12,8 @@ mod writer;
 
 pub use error::NcwError;
 pub use opened::{NcwHeader, Opened, SampleFormat, SAMPLES_PER_BLOCK};
+pub use pieces::{Pieces, SAMPLES_AT_ONCE};
 pub use reader::NcwReader;
 pub use refused::{decode_refusal, reencode_refusal, Refused};
-pub use slices::{decode_bytes, decode_into, open};
+pub use slices::{decode_bytes, decode_into, open, read_frames_bytes, read_frames_into};
 pub use writer::{encode_into, encode_pcm, encode_pcm_with_template, encode_with_template_into, PcmSpec, StereoMode};

@@ -1,5 +1,6 @@
 //! What the bytes of a file say of it. They are read once the archive has accepted them; on any others these functions find
 //! nothing, or what happens to lie there.
+use std::iter::successors;
 
 /// How many samples a block holds for its channel. The last block of a channel is filled up to it.
 pub const SAMPLES_PER_BLOCK: usize = 512;
@@ -73,17 +74,31 @@ impl NcwHeader {
 
 /// The bits word of a block, where those before it in its group were accepted.
 pub(crate) fn bits_word(file: &[u8], group: u32, channel: u16) -> Option<i16> {
+    bits_words(file, group)?.nth(channel.into())
+}
+
+/// The first bits word beyond 32 either way in the groups of these frames, where all that comes before it was accepted.
+pub(crate) fn bits_beyond(file: &[u8], first: u32, count: u32) -> Option<i16> {
+    let channels = NcwHeader::of(file)?.channels.into();
+    let last = first.checked_add(count.checked_sub(1)?)?;
+    let [first, last] = [first, last].map(|frame| frame / SAMPLES_PER_BLOCK as u32);
+    let mut words = (first..=last).filter_map(|group| bits_words(file, group)).flat_map(|words| words.take(channels));
+    words.find(|bits| bits.unsigned_abs() > 32)
+}
+
+/// The bits words of a group's blocks, each of which says where the next block is.
+fn bits_words(file: &[u8], group: u32) -> Option<impl Iterator<Item = i16> + '_> {
     let header = NcwHeader::of(file)?;
     let entry = u32_at(file, header.blocks_offset as usize + 4 * group as usize)?;
     let bits = |block: usize| Some(u16_at(file, block + 8)? as i16);
-    let behind = |block: usize, _| {
-        let width = match bits(block)?.unsigned_abs() {
+    let behind = move |block: &usize| {
+        let width = match bits(*block)?.unsigned_abs() {
             0 => header.bits_per_sample,
             width => width,
         };
         Some(block + BLOCK_HEADER + usize::from(width) * SAMPLES_PER_BLOCK / 8)
     };
-    bits((0..channel).try_fold(header.data_offset as usize + entry as usize, behind)?)
+    Some(successors(Some(header.data_offset as usize + entry as usize), behind).map_while(bits))
 }
 
 fn u16_at(file: &[u8], place: usize) -> Option<u16> {
@@ -111,6 +126,7 @@ mod tests {
             assert!(Opened::of(&file).is_none() || byte == 0);
             for (group, channel) in places.into_iter().filter(|_| byte != 0) {
                 assert_eq!(bits_word(&file, group, channel), None, "{length} bytes {byte}");
+                assert_eq!(bits_beyond(&file, group, 600), None, "{length} bytes {byte}");
             }
             file.iter_mut().skip(20).take(12).for_each(|byte| *byte = 0);
             for (group, channel) in places {

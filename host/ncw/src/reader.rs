@@ -1,8 +1,9 @@
 //! The reader by its original name.
 use crate::error::NcwError;
 use crate::opened::Opened;
+use crate::pieces::Pieces;
 use crate::refused::{decode_refusal, Refused};
-use crate::slices::{decode_into, open};
+use crate::slices::{decode_into, open, read_frames_into};
 use std::fmt;
 use std::io::{Read, Seek, SeekFrom};
 use std::marker::PhantomData;
@@ -53,17 +54,44 @@ impl<R: Read + Seek> NcwReader<R> {
     /// [`NcwHeader::num_samples`]: crate::NcwHeader::num_samples
     /// [`NcwHeader::channels`]: crate::NcwHeader::channels
     pub fn decode_samples(&mut self) -> Result<Vec<i32>, NcwError> {
-        let mut samples = Vec::new();
-        samples.try_reserve_exact(self.samples).map_err(|_| NcwError::no_memory())?;
-        samples.resize(self.samples, 0);
+        let mut samples = room_for(self.samples)?;
         decode_into(&self.file, &mut samples)?;
         Ok(samples)
+    }
+
+    /// The samples of `count` frames, from the frame `first` on: those that [`decode_samples`](Self::decode_samples) has there, where
+    /// it does not refuse. Only groups that have one of these frames are looked at, and the signature and flags of the first block:
+    /// other damage in other groups does not matter. Frames past the last are refusal 51, also where `count` is 0 and `first` is past
+    /// the end.
+    ///
+    /// Each call goes over the whole table of offsets before it reads: for many frames in order [`pieces`](Self::pieces) is better
+    /// than many calls.
+    pub fn read_frames(&self, first: u32, count: u32) -> Result<Vec<i32>, NcwError> {
+        // Frames that are not there are refused whatever the room is.
+        let is_there = u64::from(first) + u64::from(count) <= self.header.num_samples.into();
+        let there = if is_there { count as usize } else { 0 };
+        let mut samples = room_for(there * usize::from(self.header.channels))?;
+        read_frames_into(&self.file, first, count, &mut samples)?;
+        Ok(samples)
+    }
+
+    /// All samples in order, a piece at a time: memory is taken for one piece, and not for the whole file's samples.
+    pub fn pieces(&self) -> Pieces<'_, R> {
+        Pieces::new(self)
     }
 
     /// Where [`decode_samples`](Self::decode_samples) refuses the file; None where it does not, also where it found too little memory.
     pub fn decode_refusal(&self) -> Option<Refused> {
         decode_refusal(&self.file, 4 * self.samples)
     }
+}
+
+/// Room for so many samples.
+fn room_for(count: usize) -> Result<Vec<i32>, NcwError> {
+    let mut samples = Vec::new();
+    samples.try_reserve_exact(count).map_err(|_| NcwError::no_memory())?;
+    samples.resize(count, 0);
+    Ok(samples)
 }
 
 impl<R> Deref for NcwReader<R> {

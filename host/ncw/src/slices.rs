@@ -1,7 +1,8 @@
 //! Opening and decoding of lent bytes, into lent room.
 use crate::boundary;
 use crate::error::NcwError;
-use crate::refused::{decode_refusal, Refused};
+use crate::opened::bits_beyond;
+use crate::refused::decode_refusal;
 
 /// Opens a file in memory: how many bytes its samples take, 4 a sample.
 ///
@@ -32,13 +33,48 @@ pub fn decode_into(file: &[u8], samples: &mut [i32]) -> Result<usize, NcwError> 
 /// assert_eq!(room, [7; 4]);
 /// ```
 pub fn decode_bytes(file: &[u8], samples: &mut [u8]) -> Result<usize, NcwError> {
-    answered(boundary::decode(file, samples), || decode_refusal(file, samples.len()))
+    answered(boundary::decode(file, samples), || Some(decode_refusal(file, samples.len())?.bits()))
 }
 
-/// The length that a call answered, or its refusal. What `located` says is asked for 4 alone, whose bits word is found by its place.
-pub(crate) fn answered(answer: u64, located: impl FnOnce() -> Option<Refused>) -> Result<usize, NcwError> {
+/// Reads `count` frames of a file in memory, from the frame `first` on, into room that the caller lends: how many samples were
+/// written, from the first on. They are those that decoding the whole file would put there. A group of 512 frames that has none of
+/// these is not looked at, so damage in it is not refused; one that has any is checked whole. Of the file's first block every call
+/// looks at the signature and the flags.
+///
+/// Frames past the file's last are refusal 51, before any group is looked at; too little room is refusal 50, after all others. What
+/// lies after the samples stays, and where it refuses nothing is changed.
+///
+/// ```
+/// use ncw::{encode_pcm, read_frames_into, PcmSpec, StereoMode};
+///
+/// let spec = PcmSpec { channels: 2, bits_per_sample: 16, sample_rate: 44_100 };
+/// let samples: Vec<i32> = (0..2_000).collect();
+/// let file = encode_pcm(&samples, spec, StereoMode::Auto).unwrap();
+/// let mut room = [-1; 7];
+/// assert_eq!(read_frames_into(&file, 511, 3, &mut room).unwrap(), 6);
+/// assert_eq!(room, [1_022, 1_023, 1_024, 1_025, 1_026, 1_027, -1]);
+/// assert_eq!(read_frames_into(&file, 998, 3, &mut room).unwrap_err().number(), Some(51));
+/// ```
+pub fn read_frames_into(file: &[u8], first: u32, count: u32, samples: &mut [i32]) -> Result<usize, NcwError> {
+    read_frames_bytes(file, first, count, boundary::as_bytes_mut(samples)).map(|bytes| bytes / 4)
+}
+
+/// The same with room that is counted in bytes, 4 a sample with the lowest first: how many bytes were written.
+///
+/// ```
+/// let mut room = [7; 4];
+/// assert_eq!(ncw::read_frames_bytes(&[], 0, 0, &mut room).unwrap_err().number(), Some(1));
+/// assert_eq!(room, [7; 4]);
+/// ```
+pub fn read_frames_bytes(file: &[u8], first: u32, count: u32, samples: &mut [u8]) -> Result<usize, NcwError> {
+    let answer = boundary::read_frames(file, first, count, samples);
+    answered(answer, || bits_beyond(file, first, count))
+}
+
+/// The length that a call answered, or its refusal. What `bits` says is asked for 4 alone: the bits word.
+pub(crate) fn answered(answer: u64, bits: impl FnOnce() -> Option<i16>) -> Result<usize, NcwError> {
     match answer.checked_sub(boundary::REFUSED) {
         None => Ok(answer as usize),
-        Some(number) => Err(NcwError::refused(number, || located().map_or(0, |refused| refused.bits()))),
+        Some(number) => Err(NcwError::refused(number, || bits().unwrap_or_default())),
     }
 }

@@ -119,7 +119,7 @@ pub fn encode_with_template_into(
     let PcmSpec { channels, bits_per_sample, sample_rate } = spec;
     let bytes = boundary::as_bytes(samples);
     let answer = boundary::reencode(bytes, channels, bits_per_sample, sample_rate, template, file);
-    answered(answer, || reencode_refusal(samples, spec, template, file.len()))
+    answered(answer, || Some(reencode_refusal(samples, spec, template, file.len())?.bits()))
 }
 
 /// The most bytes that a file of so many samples has: every block raw. Settings that are refused need no room, and data of more

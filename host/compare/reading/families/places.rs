@@ -8,7 +8,7 @@ use crate::random::Random;
 
 const GROUPS: usize = 4;
 const FRAMES: u32 = 1_600;
-const CHANNELS: [u16; 3] = [1, 2, 3];
+pub const CHANNELS: [u16; 3] = [1, 2, 3];
 
 #[derive(Clone, Copy)]
 enum Fault {
@@ -42,14 +42,15 @@ fn end_after(bytes: &mut [u8], places: &Places, group: usize, length: usize) {
 
 /// Every ordered pair of a fault and a block.
 pub fn all() -> Vec<Part> {
-    let of = |channels: u16| {
-        let each = FAULTS.len() * GROUPS * usize::from(channels);
-        Part::new(each * each, move |k| with_two(channels, &mut Picks(k)))
-    };
-    CHANNELS.map(of).into()
+    CHANNELS.map(|channels| Part::new(count(channels), move |k| with_two(channels, &mut Picks(k)))).into()
 }
 
-fn with_two(channels: u16, picks: &mut Picks) -> Vec<u8> {
+/// How many pairs there are.
+pub fn count(channels: u16) -> usize {
+    (FAULTS.len() * GROUPS * usize::from(channels)).pow(2)
+}
+
+pub fn with_two(channels: u16, picks: &mut Picks) -> Vec<u8> {
     let random = &mut Random::new(u64::from(channels));
     let mut file = File { tail: vec![0x16; 9], ..filled(channels, FRAMES, || noisy(2, random)) };
     let two = [(); 2].map(|_| (picks.pick(&FAULTS), picks.below(GROUPS), picks.below(channels.into())));

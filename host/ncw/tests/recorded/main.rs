@@ -1,7 +1,10 @@
-//! The crate over the archive, held to the list of recorded answers (`host/recorded`): all but the steps of walks and the group of encoding's 35, which it has no call for.
+//! The crate over the archive, held to the list of recorded answers (`host/recorded`): all but the steps of walks, the group of encoding's 35 and where frames are refused, which it has no call for.
 #[allow(dead_code)]
 #[path = "../../../recorded/draw.rs"]
 mod draw;
+#[allow(dead_code)]
+#[path = "../../../definitions/few_frames.rs"]
+mod few_frames;
 #[allow(dead_code)]
 #[path = "../../../definitions/located.rs"]
 mod located;
@@ -24,7 +27,7 @@ const FILLER: u8 = 0x5A;
 
 /// What a refusal has behind its number: the value that 4 and 36 tell, and for all of them the group and the channel.
 fn ask(question: &Question) -> Option<Given> {
-    let Question { file, samples, spec, first, .. } = question;
+    let Question { file, samples, spec, first, count, .. } = question;
     let (channels, depth, rate) = (spec.channels, spec.bits_per_sample, spec.sample_rate);
     match question.kind {
         16 => Some((opened(file).unwrap_or_else(|error| refused(&error, file)), Vec::new())),
@@ -42,6 +45,10 @@ fn ask(question: &Question) -> Option<Given> {
             let word = |room| boundary::reencode_refusal(samples, channels, depth, rate, file, room);
             let told = |number| told(number, word(question.room as u64), || bits_of_reencoding(question));
             Some(in_room(question.room, 1, call, told))
+        }
+        21 => {
+            let call = |room: &mut [u8]| boundary::read_frames(file, *first, *count, room);
+            Some(in_room(4 * question.room, 4, call, |number| told_of_frames(question, number)))
         }
         _ => None,
     }
@@ -70,6 +77,17 @@ fn group_of_encoding(question: &Question, number: u64) -> u32 {
         35 => located::encoding(&words(samples), channels, depth, rate, *first).expect("35 is told").group,
         _ => 0,
     }
+}
+
+/// No call of the archive tells where: this is the reference's. The bits word is the crate's.
+fn told_of_frames(question: &Question, number: u64) -> Vec<u8> {
+    let Question { file, first, count, room, .. } = question;
+    let refused = few_frames::read_frames(file, *first, *count, *room as u64).expect_err("what the archive refuses");
+    let bits = match number {
+        4 => bits(ncw::read_frames_bytes(file, *first, *count, &mut []).map(drop)).to_le_bytes().to_vec(),
+        _ => Vec::new(),
+    };
+    [bits, place(refused.group, refused.channel)].concat()
 }
 
 /// The nine numbers of a file that opens.
@@ -137,7 +155,9 @@ fn the_recorded_answers() {
     let replay = Path::new(env!("CARGO_MANIFEST_DIR")).join("../../crates/replay");
     let answers = reread(&fs::read(replay.join("data/answers")).unwrap(), ask);
     let text = fs::read_to_string(replay.join("stdout")).unwrap();
-    for (kind, name) in [(16, "opening"), (17, "decoding"), (19, "encoding"), (20, "re-encoding")] {
+    for (kind, name) in
+        [(16, "opening"), (17, "decoding"), (19, "encoding"), (20, "re-encoding"), (21, "reading frames")]
+    {
         let accepted = answers.iter().filter(|answer| **answer == (kind, 0, false)).count();
         let begins = format!("{name}: accepted {accepted},");
         assert!(text.lines().any(|line| line.starts_with(&begins)), "{begins}");

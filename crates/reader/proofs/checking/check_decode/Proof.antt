@@ -2,7 +2,7 @@
 use borrow.Author.Needs.{needs}
 use Rattle.laws.proofs.Chain.{settled}
 use Rattle.opening.proofs.Ways.{fields-there}
-use Rattle.reader.proofs.Ways.{open-refused, groups-refused, decode-short, decode-passes}
+use Rattle.reader.proofs.Ways.{groups-there, open-refused, groups-refused, decode-short, decode-passes}
 use Rattle.reader.proofs.checking.check_decode.Statement.{statement}
 use Rattle.reader.proofs.checking.check_decode.Tie as tie
 
@@ -16,7 +16,7 @@ format-of-requires : tie.Need-format-of-requires
 format-of-requires c κs = (search settled, search needs)
 
 check-groups-requires : tie.Need-check-groups-requires
-check-groups-requires c κs = (search settled, search needs)
+check-groups-requires c κs = (search settled, search needs, search groups-there)
 
 returns-2 : tie.Need-returns-2
 returns-2 c = search groups-refused
@@ -37,6 +37,7 @@ check-decode-spec =
     (λ c. search needs)
     read-fields-requires
     format-of-requires
+    (λ c κs. search needs)
     check-groups-requires
     (λ c. search needs)
     returns-2

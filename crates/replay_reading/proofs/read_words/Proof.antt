@@ -1,0 +1,26 @@
+-- The match knows the way; the entry of each promises its answer and what it writes, and `of_answer` what that says.
+use borrow.Author.Needs.{needs}
+use Rattle.replay_reading.proofs.Asking.{decode-says, decode-puts, frames-says, frames-puts}
+use Rattle.replay_reading.proofs.read_words.Statement.{statement}
+use Rattle.replay_reading.proofs.read_words.Tie as tie
+
+returns : tie.Need-returns
+returns c = (search decode-says, search decode-puts)
+
+returns-2 : tie.Need-returns-2
+returns-2 c = (search frames-says, search frames-puts)
+
+pub read-words-spec : {M : Type 1} → statement M
+read-words-spec =
+    tie.close
+    (tie.spec
+    (λ c. search needs)
+    (λ c κs. search needs)
+    (λ c κs. search needs)
+    (λ c. search needs)
+    (λ c κs. search needs)
+    (λ c κs. search needs)
+    (λ c. search needs)
+    returns
+    (λ c. search needs)
+    returns-2)
