@@ -1,8 +1,9 @@
-//! What the list says of a question: the original's answer, with what document 01 adds (38, 39, 50, done), and the places of document 02.
+//! What the list says of a question: the original's answer, with what document 01 adds (38, 39, 50, done), and the places, frames and peaks of document 02.
 use crate::asking::{ask, Answer, Question as Asking};
 use crate::faults::put;
 use crate::few_frames::read_frames;
 use crate::located::{self, Refused};
+use crate::peaks::{self, Decoded, Pair};
 use crate::reread::{Given, Question};
 use ncw::{PcmSpec, StereoMode};
 
@@ -213,6 +214,91 @@ fn behind_a_good_one(file: &[u8], numbers: [u64; 9], group: usize) -> Vec<u8> {
     out
 }
 
+// ---- peaks: the summary is document 02's, by the reference; the samples are the original's
+
+/// The file as the reference takes it, and what is told where it does not decode.
+fn decoded(file: &[u8]) -> (Result<Decoded, u32>, Option<Told>) {
+    let answer = ask(&Asking::Decode(file.to_vec()));
+    let told = refused(&answer, located::decoding(file));
+    let decoded = match (answer, opening(file)) {
+        (Answer::Samples(samples), Told::Opened(numbers)) => {
+            let (frames, channels) = (numbers[3] as u32, numbers[0] as u16);
+            Ok(Decoded { frames, channels, is_float: numbers[8] == 1, samples })
+        }
+        _ => Err(told.as_ref().expect("a refusal").number().into()),
+    };
+    (decoded, told)
+}
+
+/// A refusal of decoding tells its place, any other none.
+fn refused_peaks(number: u32, of_decoding: Option<Told>) -> Told {
+    let told = of_decoding.unwrap_or_else(|| nowhere(number));
+    assert_eq!(u32::from(told.number()), number, "decoding's refusal comes first");
+    told
+}
+
+/// What is told, and the summary.
+pub fn building(file: &[u8], room: usize) -> (Told, Vec<u8>) {
+    let (decoded, of_decoding) = decoded(file);
+    match peaks::build(&decoded, room as u64) {
+        Ok(summary) => {
+            assert_eq!(peaks::read_pairs(&summary, u64::MAX), Ok(extremes(&decoded)), "what the summary reads as");
+            (Told::Counted(summary.len() as u32, sum(&marked_words(&summary))), summary)
+        }
+        Err(number) => (refused_peaks(number, of_decoding), Vec::new()),
+    }
+}
+
+/// The least and the greatest sample of each group and channel.
+fn extremes(decoded: &Result<Decoded, u32>) -> Vec<Pair> {
+    let Ok(Decoded { channels, samples, .. }) = decoded else { panic!("no samples") };
+    let channels = usize::from(*channels);
+    let of = |group: &[i32], channel: usize| {
+        let samples = || group.iter().skip(channel).step_by(channels);
+        (*samples().min().expect("a frame"), *samples().max().expect("a frame"))
+    };
+    let groups = samples.chunks(512 * channels);
+    groups.flat_map(|group| (0..channels).map(move |channel| of(group, channel))).collect()
+}
+
+/// The bytes four at a time. What is left of the last word is what the room was filled with: 5A5A0000 and the word's place.
+fn marked_words(bytes: &[u8]) -> Vec<i32> {
+    let word = |(place, part): (usize, &[u8])| {
+        let mut word = (0x5A5A_0000 + place as u32 % 65_536).to_le_bytes();
+        word[..part.len()].copy_from_slice(part);
+        i32::from_le_bytes(word)
+    };
+    bytes.chunks(4).enumerate().map(word).collect()
+}
+
+/// Each pair is two samples.
+fn paired(pairs: Result<Vec<Pair>, u32>) -> Told {
+    match pairs {
+        Ok(pairs) => {
+            let samples: Vec<i32> = pairs.iter().flat_map(|pair| [pair.0, pair.1]).collect();
+            Told::Counted(samples.len() as u32, sum(&samples))
+        }
+        Err(number) => nowhere(number),
+    }
+}
+
+pub fn reading_pair(summary: &[u8], group: u32, channel: u32, room: usize) -> Told {
+    paired(peaks::read_pair(summary, group, channel, 4 * room as u64).map(|pair| vec![pair]))
+}
+
+pub fn reading_pairs(summary: &[u8], room: usize) -> Told {
+    paired(peaks::read_pairs(summary, 4 * room as u64))
+}
+
+/// A count of 1 is yes, 0 is no; nothing is written.
+pub fn checking(summary: &[u8], file: &[u8]) -> Told {
+    let (decoded, of_decoding) = decoded(file);
+    match peaks::check(summary, &decoded) {
+        Ok(is_summary) => Told::Counted(is_summary.into(), 0),
+        Err(number) => refused_peaks(number, of_decoding),
+    }
+}
+
 const MODES: [StereoMode; 3] = [StereoMode::Auto, StereoMode::Direct, StereoMode::MidSide];
 
 /// What is told, and the file.
@@ -267,7 +353,11 @@ pub fn to(question: &Question) -> Given {
         }
         19 => (writing(*spec, *first, samples, *room), Vec::new()),
         20 => (rewriting(*spec, samples, file, *room), Vec::new()),
-        _ => ((reading_frames(file, *first, *count, *room), Vec::new()), Vec::new()),
+        21 => ((reading_frames(file, *first, *count, *room), Vec::new()), Vec::new()),
+        22 => (building(file, *room), Vec::new()),
+        23 => ((reading_pair(samples, *first, *count, *room), Vec::new()), Vec::new()),
+        24 => ((reading_pairs(samples, *room), Vec::new()), Vec::new()),
+        _ => ((checking(samples, file), Vec::new()), Vec::new()),
     };
     ([told.bytes(), next].concat(), bytes)
 }

@@ -1,12 +1,12 @@
 //! Answers that are false on purpose, and rooms that are changed on purpose: a program that finds none of them finds nothing.
-use crate::answers::{nowhere, reading_frames, Told};
-use crate::blocks::{filled, raw};
+use crate::answers::{building, nowhere, reading_frames, reading_pair, Told};
+use crate::blocks::{filled, flagged, raw};
 use crate::encodings::spec;
 use crate::faults::put;
 use crate::located::Refused;
 use crate::noisy::noisy;
 use crate::random::Random;
-use crate::tape::Tape;
+use crate::tape::{Tape, SPACE};
 
 const ACCEPTED: Told = Told::Counted(4, 7);
 
@@ -29,6 +29,16 @@ pub fn all(tape: &mut Tape) {
     of_places(tape);
     tape.case("false on purpose: reading frames");
     of_frames(tape, &file, &damaged);
+    let random = &mut Random::new(6);
+    let various = filled(2, 513, || noisy(3, random)).bytes();
+    tape.case("false on purpose: building peaks");
+    of_building(tape, &various, &damaged);
+    tape.case("false on purpose: reading a peak");
+    of_pair(tape, &various);
+    tape.case("false on purpose: reading peaks");
+    of_pairs(tape, &various);
+    tape.case("false on purpose: checking peaks");
+    of_checking(tape, &various, &damaged);
 }
 
 /// Each of the nine fields, and the number.
@@ -173,6 +183,99 @@ fn of_frames(tape: &mut Tape, file: &[u8], damaged: &[u8]) {
     lies(tape, &WRONG_PLACES, past);
     let short = |tape: &mut Tape| tape.frames(511, 1, 1) as u32;
     lies(tape, &[accepted, |told, _| *told = nowhere(51)], short);
+}
+
+/// Two groups of two channels. A length that is one byte off; the room is changed in the summary's last word, which is not whole, and behind it.
+fn of_building(tape: &mut Tape, file: &[u8], damaged: &[u8]) {
+    let question = |tape: &mut Tape| tape.build(64) as u32;
+    let length = building(file, SPACE).1.len();
+    assert!(length % 4 > 0 && length < 56, "a last word that is not whole");
+    tape.file(file);
+    lies(
+        tape,
+        &[wrong_count, odd_count, wrong_sum, refused, |told, _| *told = nowhere(50), |told, _| *told = nowhere(66)],
+        question,
+    );
+    spoils(tape, &[0, length / 4, length / 4 + 1, 15], question);
+    tape.file(damaged);
+    lies(tape, &[wrong_bits, another_number, accepted], question);
+    lies(tape, &WRONG_PLACES, question);
+    spoils(tape, &[0, 15], question);
+    tape.file(&float_file());
+    lies(tape, &[accepted, another_number, |told, _| *told = nowhere(50)], question);
+    lies(tape, &WRONG_PLACES, question);
+    tape.file(file);
+    let short = |tape: &mut Tape| tape.build(3) as u32;
+    lies(tape, &[accepted, another_number], short);
+    lies(tape, &WRONG_PLACES, short);
+}
+
+fn float_file() -> Vec<u8> {
+    filled(2, 513, || flagged(2, noisy(3, &mut Random::new(5)))).bytes()
+}
+
+fn odd_count(told: &mut Told, _: &mut u32) {
+    if let Told::Counted(count, _) = told {
+        *count ^= 1;
+    }
+}
+
+fn give_summary(tape: &mut Tape, file: &[u8]) {
+    tape.file(file);
+    tape.build(64);
+    tape.keep_read();
+}
+
+/// Group 1, channel 0, in room for four samples. The other pairs in its place, then a channel past the last, and too little room.
+fn of_pair(tape: &mut Tape, file: &[u8]) {
+    let question = |tape: &mut Tape| tape.pair(1, 0, 4) as u32;
+    give_summary(tape, file);
+    lies(
+        tape,
+        &[wrong_count, wrong_sum, refused, |told, _| *told = nowhere(50), |told, _| *told = nowhere(67)],
+        question,
+    );
+    for (group, channel) in [(0, 0), (0, 1), (1, 1)] {
+        let other = reading_pair(tape.sample_bytes(), group, channel, 4);
+        tape.lie(move |told, _| *told = other);
+        question(tape);
+    }
+    spoils(tape, &[0, 1, 2, 3], question);
+    let past = |tape: &mut Tape| tape.pair(0, 2, 4) as u32;
+    lies(tape, &[accepted, another_number, |told, _| *told = nowhere(63)], past);
+    lies(tape, &WRONG_PLACES, past);
+    spoils(tape, &[0, 3], past);
+    let short = |tape: &mut Tape| tape.pair(0, 0, 1) as u32;
+    lies(tape, &[accepted, |told, _| *told = nowhere(67)], short);
+}
+
+/// Four pairs in room for ten samples; then a summary cut.
+fn of_pairs(tape: &mut Tape, file: &[u8]) {
+    let question = |tape: &mut Tape| tape.pairs(10) as u32;
+    give_summary(tape, file);
+    lies(tape, &[wrong_count, wrong_sum, refused, |told, _| *told = nowhere(50)], question);
+    spoils(tape, &[0, 7, 8, 9], question);
+    tape.samples_length(tape.sample_bytes().len() - 1);
+    lies(tape, &[accepted, another_number, |told, _| *told = nowhere(63)], question);
+    lies(tape, &WRONG_PLACES, question);
+    spoils(tape, &[0, 9], question);
+}
+
+/// Yes for no and no for yes; neither for a refusal.
+fn of_checking(tape: &mut Tape, file: &[u8], damaged: &[u8]) {
+    let question = |tape: &mut Tape| tape.check() as u32;
+    let [yes, no]: [fn(&mut Told, &mut u32); 2] =
+        [|told, _| *told = Told::Counted(1, 0), |told, _| *told = Told::Counted(0, 0)];
+    give_summary(tape, file);
+    lies(tape, &[no, refused, |told, _| *told = nowhere(66), |told, _| *told = Told::Counted(2, 0)], question);
+    tape.samples_length(tape.sample_bytes().len() - 1);
+    lies(tape, &[yes, refused, |told, _| *told = nowhere(60)], question);
+    tape.file(damaged);
+    lies(tape, &[yes, no, wrong_bits, another_number], question);
+    lies(tape, &WRONG_PLACES, question);
+    tape.file(&float_file());
+    lies(tape, &[yes, no, another_number], question);
+    lies(tape, &WRONG_PLACES, question);
 }
 
 /// One sample gives 272 bytes.

@@ -8,6 +8,7 @@ use crate::misfits;
 use crate::pairs;
 use crate::places;
 use crate::ranges;
+use crate::summaries;
 use crate::tape::{samples_in, Tape};
 use crate::templates::{self, Reencoding};
 use crate::traps;
@@ -27,6 +28,7 @@ pub fn whole() -> Tape {
     misfits::all().iter().for_each(|case| rewrite(&mut tape, case));
     places::all(&mut tape);
     ranges::all(&mut tape);
+    summaries::all(&mut tape);
     tape
 }
 
@@ -36,6 +38,7 @@ fn read(tape: &mut Tape, case: &Case) {
     tape.open();
     tape.decode(case.room);
     ranges::of_any(tape);
+    summaries::of_any(tape);
 }
 
 /// From the first group on, the last step once more, and the whole file.

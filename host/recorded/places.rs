@@ -24,6 +24,8 @@ fn of_short_groups(tape: &mut Tape) {
     tape.step(0, 512);
     tape.step(2, 512);
     tape.frames(1024, 1, 1);
+    tape.build(0);
+    tape.check();
 }
 
 /// Of three groups the second and the third have a frame of different parity.
@@ -37,33 +39,45 @@ fn of_odd_groups(tape: &mut Tape) {
 // ---- what the list has to have
 
 /// The numbers that concern a block: each in a later group and a later channel.
-const OF_BLOCKS: [(Asked, &[u8]); 4] = [
+const OF_BLOCKS: [(Asked, &[u8]); 6] = [
     (Asked::Decoding, &[1, 3, 4, 20]),
     (Asked::Stepping, &[1, 3, 4, 20]),
     (Asked::Reencoding, &[1, 3, 4, 36, 44, 45]),
     (Asked::Frames, &[1, 3, 4, 20]),
+    (Asked::Building, &[1, 3, 4, 20]),
+    (Asked::Checking, &[1, 3, 4, 20]),
 ];
 
 /// Those that concern a group: each in a later one.
-const OF_GROUPS: [(Asked, &[u8]); 6] = [
+const OF_GROUPS: [(Asked, &[u8]); 8] = [
     (Asked::Opening, &[19]),
     (Asked::Decoding, &[19, 21, 22]),
     (Asked::Stepping, &[19, 21, 22]),
     (Asked::Encoding, &[35]),
     (Asked::Reencoding, &[34, 35, 43, 46]),
     (Asked::Frames, &[19, 21, 22]),
+    (Asked::Building, &[19, 21, 22]),
+    (Asked::Checking, &[19, 21, 22]),
 ];
 
 /// Those of them that come after the last channel: each with several.
-const AFTER_CHANNELS: [(Asked, &[u8]); 4] =
-    [(Asked::Decoding, &[22]), (Asked::Stepping, &[22]), (Asked::Reencoding, &[46]), (Asked::Frames, &[22])];
+const AFTER_CHANNELS: [(Asked, &[u8]); 6] = [
+    (Asked::Decoding, &[22]),
+    (Asked::Stepping, &[22]),
+    (Asked::Reencoding, &[46]),
+    (Asked::Frames, &[22]),
+    (Asked::Building, &[22]),
+    (Asked::Checking, &[22]),
+];
 
 /// Two groups are bad, and the first of them, which is not the file's first, is named.
-const OF_TWO: [(&str, &str); 5] = [
+const OF_TWO: [(&str, &str); 7] = [
     ("place: two short groups", "open 19 at 1, 0"),
     ("place: two short groups", "decode 19 at 1, 0"),
     ("place: two short groups", "step 19 at 1, 0"),
     ("place: two short groups", "frames 19 at 1, 0"),
+    ("place: two short groups", "build 19 at 1, 0"),
+    ("place: two short groups", "check 19 at 1, 0"),
     ("place: two odd groups", "encode 35 at 1, 0"),
 ];
 

@@ -36,6 +36,9 @@ mod noisy;
 #[path = "../definitions/orders.rs"]
 mod orders;
 mod pairs;
+#[allow(dead_code)]
+#[path = "../definitions/peaks.rs"]
+mod peaks;
 mod places;
 #[path = "../definitions/random.rs"]
 mod random;
@@ -44,6 +47,7 @@ mod recording;
 mod reread;
 #[path = "../definitions/samples.rs"]
 mod samples;
+mod summaries;
 mod tally;
 mod tape;
 mod templates;

@@ -5,14 +5,14 @@ use ncw::PcmSpec;
 const SPACE: usize = 16_384;
 
 pub struct Question<'a> {
-    /// The kind of its item: 16 open, 17 decode, 18 a step, 19 encode, 20 re-encode, 21 read frames.
+    /// The kind of its item: 16 open, 17 decode, 18 a step, 19 encode, 20 re-encode, 21 read frames; of peaks 22 build, 23 a pair, 24 all pairs, 25 check.
     pub kind: u8,
     pub file: &'a [u8],
     pub samples: &'a [u8],
     pub spec: PcmSpec,
-    /// The group of a step, the mode, or the first frame.
+    /// The group of a step or of a pair, the mode, or the first frame.
     pub first: u32,
-    /// How many frames.
+    /// How many frames, or the channel of a pair.
     pub count: u32,
     pub room: usize,
 }
@@ -30,7 +30,7 @@ pub fn reread(list: &[u8], mut ask: impl FnMut(&Question) -> Option<Given>) -> V
     loop {
         match reader.take(1)[0] {
             0 => break,
-            kind @ 16..=21 => answers.extend(reader.question(kind, &mut ask)),
+            kind @ 16..=25 => answers.extend(reader.question(kind, &mut ask)),
             kind => reader.item(kind),
         }
     }
@@ -100,9 +100,9 @@ impl<'a> Reader<'a> {
     }
 
     fn question(&mut self, kind: u8, ask: &mut impl FnMut(&Question) -> Option<Given>) -> Option<(u8, u8, bool)> {
-        let first = if matches!(kind, 18 | 19 | 21) { self.number(4) as u32 } else { 0 };
-        let count = if kind == 21 { self.number(4) as u32 } else { 0 };
-        let room = if kind == 16 { 0 } else { self.number(2) };
+        let first = if matches!(kind, 18 | 19 | 21 | 23) { self.number(4) as u32 } else { 0 };
+        let count = if matches!(kind, 21 | 23) { self.number(4) as u32 } else { 0 };
+        let room = if matches!(kind, 16 | 25) { 0 } else { self.number(2) };
         let said = self.answer(kind);
         let [file, samples] = [0, 1].map(|which| &self.spaces[which][..self.lengths[which]]);
         let given = ask(&Question { kind, file, samples, spec: self.spec, first, count, room });

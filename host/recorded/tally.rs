@@ -9,10 +9,38 @@ pub enum Asked {
     Encoding,
     Reencoding,
     Frames,
+    Building,
+    Pair,
+    Pairs,
+    Checking,
 }
 
-const ALL: [Asked; 6] =
-    [Asked::Opening, Asked::Decoding, Asked::Stepping, Asked::Encoding, Asked::Reencoding, Asked::Frames];
+const ALL: [Asked; 10] = [
+    Asked::Opening,
+    Asked::Decoding,
+    Asked::Stepping,
+    Asked::Encoding,
+    Asked::Reencoding,
+    Asked::Frames,
+    Asked::Building,
+    Asked::Pair,
+    Asked::Pairs,
+    Asked::Checking,
+];
+
+/// What the program calls each of them.
+const NAMES: [&str; 10] = [
+    "opening",
+    "decoding",
+    "stepping",
+    "encoding",
+    "re-encoding",
+    "reading frames",
+    "building peaks",
+    "reading a peak",
+    "reading peaks",
+    "checking peaks",
+];
 
 impl Asked {
     /// The kind of its items.
@@ -65,7 +93,7 @@ impl Tally {
     }
 
     fn line(&self, asked: Asked) -> String {
-        let name = ["opening", "decoding", "stepping", "encoding", "re-encoding", "reading frames"][asked as usize];
+        let name = NAMES[asked as usize];
         let done = match self.times(asked, 255) {
             0 => String::new(),
             times => format!(", done {times}"),
@@ -81,11 +109,15 @@ impl Tally {
 
 /// Every number that a run can reach: 33 and 37 take more samples than there is room for.
 #[rustfmt::skip]
-const REACHED: [(Asked, &[u8]); 6] = [
+const REACHED: [(Asked, &[u8]); 10] = [
     (Asked::Opening, &[0, 1, 2, 3, 10, 11, 12, 13, 14, 15, 16, 17, 18, 19]),
     (Asked::Decoding, &[0, 1, 2, 3, 4, 10, 11, 12, 13, 14, 15, 16, 17, 18, 19, 20, 21, 22, 50]),
     (Asked::Stepping, &[0, 255, 1, 2, 3, 4, 10, 11, 12, 13, 14, 15, 16, 17, 18, 19, 20, 21, 22, 50]),
     (Asked::Encoding, &[0, 30, 31, 32, 34, 35, 38, 39, 50]),
     (Asked::Reencoding, &[0, 1, 2, 3, 4, 30, 31, 32, 34, 35, 36, 39, 40, 41, 42, 43, 44, 45, 46, 50]),
     (Asked::Frames, &[0, 1, 2, 3, 4, 10, 11, 12, 13, 14, 15, 16, 17, 18, 19, 20, 21, 22, 50, 51]),
+    (Asked::Building, &[0, 1, 2, 3, 4, 10, 11, 12, 13, 14, 15, 16, 17, 18, 19, 20, 21, 22, 50, 66]),
+    (Asked::Pair, &[0, 10, 50, 60, 61, 62, 63, 64, 67]),
+    (Asked::Pairs, &[0, 10, 50, 60, 61, 62, 63, 64]),
+    (Asked::Checking, &[0, 1, 2, 3, 4, 10, 11, 12, 13, 14, 15, 16, 17, 18, 19, 20, 21, 22, 66]),
 ];

@@ -1,5 +1,6 @@
 //! The list in the making: what stands in its two spaces, its items so far, and the answers in it.
-use crate::answers::{opening, reading, reading_frames, rewriting, stepping, writing, Told};
+use crate::answers::{building, checking, opening, reading, reading_frames, reading_pair, reading_pairs};
+use crate::answers::{rewriting, stepping, writing, Told};
 use crate::draw::{runs, Draw, Samples};
 use crate::tally::{Asked, Tally};
 use ncw::PcmSpec;
@@ -9,6 +10,10 @@ use std::ops::Range;
 pub const SPACE: usize = 16_384;
 /// The most samples that there is room for.
 pub const MOST_SAMPLES: usize = 4_096;
+
+/// What is asked, in the notes of a case.
+const WORDS: [&str; 10] =
+    ["open", "decode", "step", "encode", "re-encode", "frames", "build", "pair", "pairs", "check"];
 
 /// One of the two spaces; the number is what is added to the kinds of its items.
 #[derive(Clone, Copy)]
@@ -118,6 +123,12 @@ impl Tape {
         self.length(Which::Samples, bytes.len());
     }
 
+    /// The samples' bytes, as a summary of peaks.
+    pub fn summary(&mut self, bytes: &[u8]) {
+        self.put(Which::Samples, bytes);
+        self.length(Which::Samples, bytes.len());
+    }
+
     pub fn samples_length(&mut self, bytes: usize) {
         self.length(Which::Samples, bytes);
     }
@@ -179,9 +190,9 @@ impl Tape {
         self.spaces[0].hold(&file);
     }
 
-    /// What was just read are the samples from now on.
+    /// What was just read are the samples from now on; so is a summary that was just built.
     pub fn keep_read(&mut self) {
-        let samples = self.read.take().expect("samples that were just read");
+        let samples = self.read.take().expect("samples that were just read, or a summary");
         self.item(8, &[]);
         self.spaces[1].hold(&samples);
     }
@@ -255,6 +266,37 @@ impl Tape {
         accepted
     }
 
+    /// The file's summary, with room for so many bytes, and for the whole of its last word.
+    pub fn build(&mut self, room: usize) -> bool {
+        assert!(room <= SPACE);
+        let (told, summary) = building(self.file_bytes(), room);
+        assert!(!told.accepted() || summary.len().div_ceil(4) <= room / 4, "a last word outside the room");
+        let accepted = self.answer(Asked::Building, &(room as u16).to_le_bytes(), told, None, room);
+        self.read = accepted.then_some(summary);
+        accepted
+    }
+
+    /// Of the summary the pair of a group and a channel, with room for so many samples.
+    pub fn pair(&mut self, group: u32, channel: u32, room: usize) -> bool {
+        assert!(room <= MOST_SAMPLES);
+        let told = reading_pair(self.sample_bytes(), group, channel, room);
+        let head = [&group.to_le_bytes()[..], &channel.to_le_bytes(), &(room as u16).to_le_bytes()].concat();
+        self.answer(Asked::Pair, &head, told, None, 4 * room)
+    }
+
+    /// All its pairs.
+    pub fn pairs(&mut self, room: usize) -> bool {
+        assert!(room <= MOST_SAMPLES);
+        let told = reading_pairs(self.sample_bytes(), room);
+        self.answer(Asked::Pairs, &(room as u16).to_le_bytes(), told, None, 4 * room)
+    }
+
+    /// The summary against the file.
+    pub fn check(&mut self) -> bool {
+        let told = checking(self.sample_bytes(), self.file_bytes());
+        self.answer(Asked::Checking, &[], told, None, 0)
+    }
+
     /// Whether it was accepted, and is told as it was.
     fn answer(&mut self, asked: Asked, head: &[u8], told: Told, next: Option<u32>, room: usize) -> bool {
         (self.written, self.read) = (None, None);
@@ -292,7 +334,7 @@ impl Tape {
     }
 
     fn note(&mut self, asked: Asked, said: &Told, on_purpose: bool) {
-        let word = ["open", "decode", "step", "encode", "re-encode", "frames"][asked as usize];
+        let word = WORDS[asked as usize];
         let mark = if on_purpose { " (on purpose)" } else { "" };
         let case = self.cases.last_mut().expect("a case");
         case.answers.push(format!("{word} {}{mark}", said.short()));

@@ -1,4 +1,4 @@
--- The starred cases, the numbers of refusal, the place that 36 tells, where refusals are, a few frames, and the laws of
+-- The starred cases, the numbers of refusal, the place that 36 tells, where refusals are, a few frames, peaks, and the laws of
 -- depths and counts.
 pub mod Made
 pub mod Starred
@@ -6,4 +6,5 @@ pub mod Numbered
 pub mod Misfits
 pub mod Placed
 pub mod Ranged
+pub mod Peaked
 pub mod UnitLaws

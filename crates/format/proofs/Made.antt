@@ -19,9 +19,11 @@ use Rattle.format.specs.Opening.{checkFields, checkOffsets, badEntry, ch
 use Rattle.format.specs.Decoding.{isFloat, checkBlock, checkGroup, coded, channelsOf, woven, groupSamples, checkDecode, decodedOf, checkRoom, decodeOf, decodeInto}
 use Rattle.format.specs.Walking.{checkStep, stepSamples, hasGroup, checkStepInto, checkWalk, stepOf, nextOf, stepInto}
 use Rattle.format.specs.FewFrames.{touched, checkFrames, checkFramesInto, frameAt, framesAt, readFramesOf, readFramesInto}
+use Rattle.format.specs.SevenBits.{sevenIn, seven, marked, sevenLength, sevenValue, checkSeven, past}
+use Rattle.format.specs.Peaks.{picked, extreme, pairBytes, summaryBytes, channelPeak, peakAt, summaryOf, checkPeaks, checkPeaksInto, buildPeaksOf, buildPeaksInto, comparePeaksOf, pairCount, pairNumber, fromPair, pairOf, checkTwo, checkPair, checkSummary, checkPeak, pairsFrom, readPeakOf, readPeakInto, checkAllPeaks, readPeaksOf, readPeaksInto}
 use Rattle.format.specs.Encoding.{channel, unwoven, padded, paddedChannels, differences, leastFrom, leastWidth, firstValue, blockBytes, encodedBlock, blocks, mid, side, midSide, equalParity, parity, takesMid, encodedGroup, groupIn, encodedGroupAt, headerBytes, tableOf, assembled, encodedFile, checkSpec, checkEncoder, checkSamples, isMidSide, checkStereo, checkSize, checkEncode, checkEncodeInto, encodeOf, encodeInto}
 use Rattle.format.specs.Reencoding.{newValues, valuesFor, baseFor, reencodedBlock, checkTemplateBlock, checkReencodeBlock, activeIn, checkReencodeGroup, reencodedGroup, checkSame, checkBounds, checkRising, checkTemplate, checkReencoder, checkReencode, checkReencodeInto, reencodedFile, reencodeOf, reencodeInto}
-use Rattle.format.specs.Boundary.{samplesFrom, sampleBytes, isMode, modeOf, checkMode, checkBytes, hostOpen, hostDecode, hostDecodeInto, hostReadFrames, hostReadFramesInto, checkHostEncode, hostEncode, hostEncodeInto, checkHostReencode, hostReencode, hostReencodeInto, hostDecodeRefusal, hostReencodeRefusal}
+use Rattle.format.specs.Boundary.{samplesFrom, sampleBytes, isMode, modeOf, checkMode, checkBytes, hostOpen, hostDecode, hostDecodeInto, hostReadFrames, hostReadFramesInto, hostPeaks, hostPeak, hostPeakInto, hostPeaksAll, hostPeaksAllInto, hostPeaksCheck, checkHostEncode, hostEncode, hostEncodeInto, checkHostReencode, hostReencode, hostReencodeInto, hostDecodeRefusal, hostReencodeRefusal}
 use Rattle.format.specs.declared.refusals.Place.{Place}
 use Rattle.format.specs.declared.refusals.Checked.{Checked}
 use Rattle.format.specs.declared.refusals.Checked.the-variants.{Fine, No}
@@ -30,7 +32,7 @@ use Rattle.format.specs.declared.settings.StereoMode.the-variants.{Auto}
 
 -- every definition of document 01, and of the requests of document 02, so that a table unfolds them all by one word
 unfoldable pub document-01 : Unit {0}
-unfolding tab joined from over lastOr pairwise every firstNot anyBelow same isIn num digits le numAt signature isSignature fieldsOf groupsOf entry groupBytes codesIn runOf values packing coding widthOf isBeyond rebuilt blockMark isBlock baseOf bitsOf midBit floatBit codingOf sizeOf decoded samplesOf fromBlock floatOf patternOf left right leftRight within depthWord isDepth depthOf framesIn checkFramed refuse _then_ inOrder located outside inside misfit checkFit checkFields checkOffsets badEntry checkTable checkFirst formatOf checkOpen headerOf openOf isFloat checkBlock checkGroup coded channelsOf woven active groupSamples checkDecode decodedOf checkRoom decodeOf decodeInto checkStep stepSamples hasGroup checkStepInto checkWalk stepOf nextOf stepInto touched checkFrames checkFramesInto frameAt framesAt readFramesOf readFramesInto channel unwoven padded paddedChannels differences leastFrom leastWidth firstValue blockBytes encodedBlock blocks mid side midSide equalParity parity takesMid encodedGroup groupIn encodedGroupAt headerBytes tableOf assembled encodedFile checkSpec checkEncoder checkSamples isMidSide checkStereo checkSize checkEncode checkEncodeInto encodeOf encodeInto newValues valuesFor baseFor reencodedBlock checkTemplateBlock checkReencodeBlock activeIn checkReencodeGroup reencodedGroup checkSame checkBounds checkRising checkTemplate checkReencoder checkReencode checkReencodeInto reencodedFile reencodeOf reencodeInto samplesFrom sampleBytes isMode modeOf checkMode checkBytes hostOpen hostDecode hostDecodeInto hostReadFrames hostReadFramesInto checkHostEncode hostEncode hostEncodeInto checkHostReencode hostReencode hostReencodeInto hostDecodeRefusal hostReencodeRefusal Ieee.isNan Ieee.ofBits Ieee.toBits Ieee.add Ieee.sub Ieee.sum Ieee.round Ieee.units Ieee.odd Ieee.span Ieee.climb Ieee.size Ieee.neg
+unfolding tab joined from over lastOr pairwise every firstNot anyBelow same isIn num digits le numAt signature isSignature fieldsOf groupsOf entry groupBytes codesIn runOf values packing coding widthOf isBeyond rebuilt blockMark isBlock baseOf bitsOf midBit floatBit codingOf sizeOf decoded samplesOf fromBlock floatOf patternOf left right leftRight within depthWord isDepth depthOf framesIn checkFramed refuse _then_ inOrder located outside inside misfit checkFit checkFields checkOffsets badEntry checkTable checkFirst formatOf checkOpen headerOf openOf isFloat checkBlock checkGroup coded channelsOf woven active groupSamples checkDecode decodedOf checkRoom decodeOf decodeInto checkStep stepSamples hasGroup checkStepInto checkWalk stepOf nextOf stepInto touched checkFrames checkFramesInto frameAt framesAt readFramesOf readFramesInto sevenIn seven marked sevenLength sevenValue checkSeven past picked extreme pairBytes summaryBytes channelPeak peakAt summaryOf checkPeaks checkPeaksInto buildPeaksOf buildPeaksInto comparePeaksOf pairCount pairNumber fromPair pairOf checkTwo checkPair checkSummary checkPeak pairsFrom readPeakOf readPeakInto checkAllPeaks readPeaksOf readPeaksInto channel unwoven padded paddedChannels differences leastFrom leastWidth firstValue blockBytes encodedBlock blocks mid side midSide equalParity parity takesMid encodedGroup groupIn encodedGroupAt headerBytes tableOf assembled encodedFile checkSpec checkEncoder checkSamples isMidSide checkStereo checkSize checkEncode checkEncodeInto encodeOf encodeInto newValues valuesFor baseFor reencodedBlock checkTemplateBlock checkReencodeBlock activeIn checkReencodeGroup reencodedGroup checkSame checkBounds checkRising checkTemplate checkReencoder checkReencode checkReencodeInto reencodedFile reencodeOf reencodeInto samplesFrom sampleBytes isMode modeOf checkMode checkBytes hostOpen hostDecode hostDecodeInto hostReadFrames hostReadFramesInto hostPeaks hostPeak hostPeakInto hostPeaksAll hostPeaksAllInto hostPeaksCheck checkHostEncode hostEncode hostEncodeInto checkHostReencode hostReencode hostReencodeInto hostDecodeRefusal hostReencodeRefusal Ieee.isNan Ieee.ofBits Ieee.toBits Ieee.add Ieee.sub Ieee.sum Ieee.round Ieee.units Ieee.odd Ieee.span Ieee.climb Ieee.size Ieee.neg
 document-01 = tt
 
 -- ---- the number that checks give, 0 where nothing is refused
@@ -79,6 +81,27 @@ unmarked = changed 0 1 0 zeros
 
 abbrev pub sided : List ℕ
 sided = changed 10 2 1 zeros
+
+-- blocks that rise by 1 from 0; of nines; of zeros, in float
+abbrev pub rising : List ℕ
+rising = blockBytes (pos 0) (pos 2) 0 (replicate 128 0x55)
+
+abbrev pub nines : List ℕ
+nines = blockBytes (pos 9) (pos 2) 0 (replicate 128 0)
+
+abbrev pub floats : List ℕ
+floats = changed 10 2 2 zeros
+
+-- a group of mid/side: of 0, 1, 2, .. and nines; of 1.0 and 0.5, in float
+abbrev pub sides : List ℕ
+sides = changed 10 2 1 rising ++ nines
+
+abbrev pub floatSides : List ℕ
+floatSides = blockBytes (pos 0x3F800000) (pos 2) 3 (replicate 128 0) ++ blockBytes (pos 0x3F000000) (pos 2) 3 (replicate 128 0)
+
+-- a file without frames
+abbrev pub empty : List ℕ
+empty = laid 1 16 0 [] [] []
 
 -- mono, 16 bits, the one sample 5
 abbrev pub five : List ℕ

@@ -18,6 +18,9 @@ use Rattle.format.specs.declared.refusals.Refusal.the-variants.{SampleBy
 use Rattle.format.specs.declared.refusals.Refusal.the-variants.{TemplateOffsets, ShortGroup, TemplateBits}
 use Rattle.format.specs.declared.refusals.Refusal.the-variants.{TemplateFlags, TemplateBytesLeft}
 use Rattle.format.specs.declared.refusals.Refusal.the-variants.{OutputTooShort, RangePastEnd}
+use Rattle.format.specs.declared.refusals.Refusal.the-variants.{NumberCut, NumberLong, NumberTooLarge}
+use Rattle.format.specs.declared.refusals.Refusal.the-variants.{BytesBehind, PeaksCrossed, FloatFile}
+use Rattle.format.specs.declared.refusals.Refusal.the-variants.{PairPastEnd}
 use Rattle.format.specs.declared.units.Framed.the-variants.{Incomplete, TooMany}
 use Rattle.format.proofs.Made.{document-01, said}
 
@@ -94,6 +97,20 @@ pub record Numbered : Type 0 where
   pub output-too-short : number OutputTooShort ≡ 50
   -- document 02, L1: first + count over the frames
   pub range-past-end : number RangePastEnd ≡ 51
+  -- a number in groups of seven bits is cut short
+  pub number-cut : number NumberCut ≡ 60
+  -- its last byte is zero, after others
+  pub number-long : number NumberLong ≡ 61
+  -- it is over 32 bits
+  pub number-too-large : number NumberTooLarge ≡ 62
+  -- bytes left over
+  pub bytes-behind : number BytesBehind ≡ 63
+  -- smallest above largest
+  pub peaks-crossed : number PeaksCrossed ≡ 64
+  -- a float file when building or checking
+  pub float-file : number FloatFile ≡ 66
+  -- asking past the last group or channel
+  pub pair-past-end : number PairPastEnd ≡ 67
   -- ---- and what is refused by them: over 4,294,967,295 frames, data over as many bytes
   pub frames-most : said (checkFrameCount 4294967295) ≡ 0
   pub frames-over : said (checkFrameCount 4294967296) ≡ 33
@@ -147,6 +164,13 @@ numbered =
       template-bytes-left = refl;
       output-too-short = refl;
       range-past-end = refl;
+      number-cut = refl;
+      number-long = refl;
+      number-too-large = refl;
+      bytes-behind = refl;
+      peaks-crossed = refl;
+      float-file = refl;
+      pair-past-end = refl;
       frames-most = refl;
       frames-over = refl;
       data-most = refl;

@@ -7,13 +7,12 @@ use lib.ListN.{replicate}
 use lib.IntN.{ℤ, pos, negsuc}
 use Rattle.format.specs.Refusals.{nowhere}
 use Rattle.format.specs.Answers.{refusedBy, read}
-use Rattle.format.specs.Encoding.{blockBytes}
 use Rattle.format.specs.FewFrames.{readFramesOf, readFramesInto, SameView}
 use Rattle.format.specs.Boundary.{hostReadFrames, hostReadFramesInto}
 use Rattle.format.specs.declared.refusals.Refusal.the-variants.{BlockSignature, FloatDiffers, BytesLeft}
 use Rattle.format.specs.declared.refusals.Refusal.the-variants.{OutputTooShort, RangePastEnd}
 use Rattle.format.specs.declared.answers.Answer.{Answer}
-use Rattle.format.proofs.Made.{document-01, laid, changed, block, two, zeros, unmarked, sided}
+use Rattle.format.proofs.Made.{document-01, block, two, zeros, unmarked, sided, rising, nines, floats, sides, floatSides, empty}
 
 -- so many frames from `first` on: what is answered, and what is left of three samples of 7
 abbrev answer : List ℕ → ℕ → ℕ → ℕ → Answer
@@ -21,27 +20,6 @@ answer file first count room = readFramesOf file (record { 0 = first }) (record 
 
 abbrev left : List ℕ → ℕ → ℕ → List ℤ
 left file first count = readFramesInto file (record { 0 = first }) (record { 0 = count }) (replicate 3 (pos 7))
-
--- blocks that rise by 1 from 0; of nines; of zeros, in float
-abbrev rising : List ℕ
-rising = blockBytes (pos 0) (pos 2) 0 (replicate 128 0x55)
-
-abbrev nines : List ℕ
-nines = blockBytes (pos 9) (pos 2) 0 (replicate 128 0)
-
-abbrev floats : List ℕ
-floats = changed 10 2 2 zeros
-
--- a group of mid/side: of 0, 1, 2, .. and nines; of 1.0 and 0.5, in float
-abbrev sides : List ℕ
-sides = changed 10 2 1 rising ++ nines
-
-abbrev floatSides : List ℕ
-floatSides = blockBytes (pos 0x3F800000) (pos 2) 3 (replicate 128 0) ++ blockBytes (pos 0x3F000000) (pos 2) 3 (replicate 128 0)
-
--- a file without frames
-abbrev empty : List ℕ
-empty = laid 1 16 0 [] [] []
 
 pub record Ranged : Type 0 where
   -- the last frame of 513, and one more; a sum of 33 bits

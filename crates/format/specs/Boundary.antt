@@ -13,6 +13,8 @@ use Rattle.format.specs.Answers.{answered, filled}
 use Rattle.format.specs.Opening.{openOf}
 use Rattle.format.specs.Decoding.{checkDecode, decodedOf, checkRoom, decodeOf}
 use Rattle.format.specs.FewFrames.{checkFramesInto, framesAt, readFramesOf}
+use Rattle.format.specs.Peaks.{buildPeaksOf, comparePeaksOf, pairCount, pairNumber, pairsFrom}
+use Rattle.format.specs.Peaks.{checkPeak, readPeakOf, checkAllPeaks, readPeaksOf}
 use Rattle.format.specs.Encoding.{encodedFile, checkEncodeInto}
 use Rattle.format.specs.Reencoding.{reencodedFile, checkReencodeInto}
 use Rattle.format.specs.declared.refusals.Refusal.the-variants.{UnknownMode, SampleBytes}
@@ -26,6 +28,7 @@ use Rattle.format.specs.declared.settings.StereoMode.{StereoMode}
 use Rattle.format.specs.declared.settings.StereoMode.the-variants.{Auto, Direct, MidSide}
 use Rattle.format.specs.declared.answers.Outcome.{Outcome}
 use Rattle.format.specs.declared.answers.Outcome.the-variants.{Opened, Read, Finished, Wrote, Refused}
+use Rattle.format.specs.declared.answers.Outcome.the-variants.{Matches, Differs}
 
 -- ------------------------------------------------------------------------------------------------------------------
 
@@ -56,6 +59,8 @@ result (Read count) = 4 * count .0
 result (Wrote size) = size
 result (Refused refusal) = 2 ^ 63 + number refusal
 result Finished = 0
+result Matches = 1  -- document 02, L7: yes
+result Differs = 0
 
 -- ---- opening, decoding
 
@@ -77,6 +82,29 @@ hostReadFrames file first count room = result (readFramesOf file first count (ro
 unfoldable pub hostReadFramesInto : List ℕ → Frames → Frames → List ℕ → List ℕ
 hostReadFramesInto file first count lent =
     filled (checkFramesInto file first count (length lent / 4)) (sampleBytes (framesAt file first count)) lent
+
+-- document 02, L7: a summary is bytes; a pair is two samples, and so 8 bytes
+unfoldable pub hostPeaks : List ℕ → ℕ → ℕ
+hostPeaks file room = result (buildPeaksOf file room .outcome)
+
+unfoldable pub hostPeak : List ℕ → ℕ → ℕ → ℕ → ℕ
+hostPeak summary g c room = result (readPeakOf summary g c (room / 4) .outcome)
+
+unfoldable pub hostPeakInto : List ℕ → ℕ → ℕ → List ℕ → List ℕ
+hostPeakInto summary g c lent =
+    let pair = pairsFrom summary (pairNumber summary g c) 1 in
+    filled (checkPeak summary g c (length lent / 4)) (sampleBytes pair) lent
+
+unfoldable pub hostPeaksAll : List ℕ → ℕ → ℕ
+hostPeaksAll summary room = result (readPeaksOf summary (room / 4) .outcome)
+
+unfoldable pub hostPeaksAllInto : List ℕ → List ℕ → List ℕ
+hostPeaksAllInto summary lent =
+    let pairs = pairsFrom summary 0 (pairCount summary) in
+    filled (checkAllPeaks summary (length lent / 4)) (sampleBytes pairs) lent
+
+unfoldable pub hostPeaksCheck : List ℕ → List ℕ → ℕ
+hostPeaksCheck summary file = result (comparePeaksOf summary file .outcome)
 
 -- ---- encoding: 38 then 39 before all other checks
 

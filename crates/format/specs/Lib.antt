@@ -21,6 +21,9 @@ pub mod Encoding
 pub mod Reencoding
 -- document 02, L1
 pub mod FewFrames
+-- L7
+pub mod SevenBits
+pub mod Peaks
 -- "What must change shape": the host boundary
 pub mod Boundary
 -- "What the promises are held to"

@@ -9,10 +9,13 @@ use Rattle.format.specs.Opening.{openOf}
 use Rattle.format.specs.Decoding.{decodeOf, decodeInto}
 use Rattle.format.specs.Walking.{stepOf, nextOf, stepInto}
 use Rattle.format.specs.FewFrames.{readFramesOf, readFramesInto}
+use Rattle.format.specs.Peaks.{buildPeaksOf, buildPeaksInto, comparePeaksOf}
+use Rattle.format.specs.Peaks.{readPeakOf, readPeakInto, readPeaksOf, readPeaksInto}
 use Rattle.format.specs.Encoding.{encodeOf, encodeInto}
 use Rattle.format.specs.Reencoding.{reencodeOf, reencodeInto}
 use Rattle.format.specs.Boundary.{hostOpen, hostDecode, hostDecodeInto, hostReadFrames, hostReadFramesInto}
-use Rattle.format.specs.Boundary.{hostEncode, hostEncodeInto}
+use Rattle.format.specs.Boundary.{hostPeaks, hostPeak, hostPeakInto, hostPeaksAll, hostPeaksAllInto}
+use Rattle.format.specs.Boundary.{hostPeaksCheck, hostEncode, hostEncodeInto}
 use Rattle.format.specs.Boundary.{hostReencode, hostReencodeInto, hostDecodeRefusal, hostReencodeRefusal}
 use Rattle.format.specs.declared.units.Frames.{Frames}
 use Rattle.format.specs.declared.settings.PcmSpec.{PcmSpec}
@@ -42,6 +45,25 @@ abbrev pub ReadsFrames : List ℕ → Frames → Frames → List ℤ → Answer 
 ReadsFrames file first count lent answer after =
     (answer ≡ readFramesOf file first count (length lent)) × (after ≡ readFramesInto file first count lent)
 
+-- building its summary
+abbrev pub BuildsPeaks : List ℕ → List ℕ → Answer → List ℕ → Type 0
+BuildsPeaks file lent answer after =
+    (answer ≡ buildPeaksOf file (length lent)) × (after ≡ buildPeaksInto file lent)
+
+-- checking a summary against the file
+abbrev pub ComparesPeaks : List ℕ → List ℕ → Answer → Type 0
+ComparesPeaks summary file answer = answer ≡ comparePeaksOf summary file
+
+-- reading a summary for group g and channel c
+abbrev pub ReadsPeak : List ℕ → ℕ → ℕ → List ℤ → Answer → List ℤ → Type 0
+ReadsPeak summary g c lent answer after =
+    (answer ≡ readPeakOf summary g c (length lent)) × (after ≡ readPeakInto summary g c lent)
+
+-- for all of them
+abbrev pub ReadsPeaks : List ℕ → List ℤ → Answer → List ℤ → Type 0
+ReadsPeaks summary lent answer after =
+    (answer ≡ readPeaksOf summary (length lent)) × (after ≡ readPeaksInto summary lent)
+
 -- encoding the samples with the settings
 abbrev pub Encodes : PcmSpec → StereoMode → List ℤ → List ℕ → Answer → List ℕ → Type 0
 Encodes spec mode samples lent answer after =
@@ -63,6 +85,21 @@ HostDecodes file lent answer after = (answer ≡ hostDecode file (length lent)) 
 abbrev pub HostReadsFrames : List ℕ → Frames → Frames → List ℕ → ℕ → List ℕ → Type 0
 HostReadsFrames file first count lent answer after =
     (answer ≡ hostReadFrames file first count (length lent)) × (after ≡ hostReadFramesInto file first count lent)
+
+abbrev pub HostBuildsPeaks : List ℕ → List ℕ → ℕ → List ℕ → Type 0
+HostBuildsPeaks file lent answer after =
+    (answer ≡ hostPeaks file (length lent)) × (after ≡ buildPeaksInto file lent)
+
+abbrev pub HostComparesPeaks : List ℕ → List ℕ → ℕ → Type 0
+HostComparesPeaks summary file answer = answer ≡ hostPeaksCheck summary file
+
+abbrev pub HostReadsPeak : List ℕ → ℕ → ℕ → List ℕ → ℕ → List ℕ → Type 0
+HostReadsPeak summary g c lent answer after =
+    (answer ≡ hostPeak summary g c (length lent)) × (after ≡ hostPeakInto summary g c lent)
+
+abbrev pub HostReadsPeaks : List ℕ → List ℕ → ℕ → List ℕ → Type 0
+HostReadsPeaks summary lent answer after =
+    (answer ≡ hostPeaksAll summary (length lent)) × (after ≡ hostPeaksAllInto summary lent)
 
 abbrev pub HostEncodes : List ℕ → PcmSpec → ℕ → List ℕ → ℕ → List ℕ → Type 0
 HostEncodes bytes spec word lent answer after =

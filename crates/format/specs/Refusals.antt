@@ -14,6 +14,9 @@ use Rattle.format.specs.declared.refusals.Refusal.the-variants.{SampleBy
 use Rattle.format.specs.declared.refusals.Refusal.the-variants.{TemplateOffsets, ShortGroup, TemplateBits}
 use Rattle.format.specs.declared.refusals.Refusal.the-variants.{TemplateFlags, TemplateBytesLeft}
 use Rattle.format.specs.declared.refusals.Refusal.the-variants.{OutputTooShort, RangePastEnd}
+use Rattle.format.specs.declared.refusals.Refusal.the-variants.{NumberCut, NumberLong, NumberTooLarge}
+use Rattle.format.specs.declared.refusals.Refusal.the-variants.{BytesBehind, PeaksCrossed, FloatFile}
+use Rattle.format.specs.declared.refusals.Refusal.the-variants.{PairPastEnd}
 use Rattle.format.specs.declared.refusals.Told.{Told}
 use Rattle.format.specs.declared.refusals.Told.the-variants.{Nothing, Bits, Misfit}
 use Rattle.format.specs.declared.refusals.Place.{Place}
@@ -60,6 +63,13 @@ number TemplateFlags = 45
 number TemplateBytesLeft = 46
 number OutputTooShort = 50
 number RangePastEnd = 51  -- document 02, L1
+number NumberCut = 60  -- L7, from here on
+number NumberLong = 61
+number NumberTooLarge = 62
+number BytesBehind = 63
+number PeaksCrossed = 64
+number FloatFile = 66
+number PairPastEnd = 67
 
 -- what it returns besides: 4 the bits word; 36, by document 02's L2, the place of the value or difference
 abbrev pub told : Refusal → Told
@@ -99,6 +109,13 @@ told TemplateFlags = Nothing
 told TemplateBytesLeft = Nothing
 told OutputTooShort = Nothing
 told RangePastEnd = Nothing
+told NumberCut = Nothing
+told NumberLong = Nothing
+told NumberTooLarge = Nothing
+told BytesBehind = Nothing
+told PeaksCrossed = Nothing
+told FloatFile = Nothing
+told PairPastEnd = Nothing
 
 -- the place of a refusal that concerns no group: document 02, L6, has group and channel both 0
 abbrev pub nowhere : Place

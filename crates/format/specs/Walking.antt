@@ -18,6 +18,7 @@ use Rattle.format.specs.declared.refusals.Checked.the-variants.{Fine}
 use Rattle.format.specs.declared.units.Samples.{Samples}
 use Rattle.format.specs.declared.answers.Outcome.{Outcome}
 use Rattle.format.specs.declared.answers.Outcome.the-variants.{Opened, Read, Finished, Wrote, Refused}
+use Rattle.format.specs.declared.answers.Outcome.the-variants.{Matches, Differs}
 use Rattle.format.specs.declared.answers.Answer.{Answer}
 
 -- ------------------------------------------------------------------------------------------------------------------
@@ -66,6 +67,8 @@ groupsPassed Finished = 0
 groupsPassed (Refused refusal) = 0
 groupsPassed (Opened header) = 0
 groupsPassed (Wrote size) = 0
+groupsPassed Matches = 0
+groupsPassed Differs = 0
 
 unfoldable pub nextOf : List ℕ → ℕ → ℕ → ℕ
 nextOf file g room = g + groupsPassed (stepOf file g room .outcome)

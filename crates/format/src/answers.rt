@@ -33,13 +33,22 @@ pub struct Header {
     pub format: SampleFormat,
 }
 
-// A file was opened, samples were read, no group was left, bytes were written, or nothing was done, for this reason.
+// The smallest and the largest of samples.
+pub struct Peak {
+    pub smallest: i32,
+    pub largest: i32,
+}
+
+// A file was opened, samples were read, no group was left, bytes were written, nothing was done, for this reason, or
+// bytes were compared: they are what was expected, or not.
 pub enum Outcome {
     Opened(Header),
     Read(Samples),
     Finished,
     Wrote(u64),
     Refused(Refusal),
+    Matches,
+    Differs,
 }
 
 // The record that reading, encoding and re-encoding share. Of a refusal that concerns a group or a block, the file's

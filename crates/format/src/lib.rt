@@ -12,6 +12,7 @@ pub use answers::Answer;
 pub use answers::Fields;
 pub use answers::Header;
 pub use answers::Outcome;
+pub use answers::Peak;
 pub use packed::Coding;
 pub use places::Named;
 pub use refusals::Checked;

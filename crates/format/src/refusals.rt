@@ -41,6 +41,13 @@ pub enum Refusal {
     TemplateBytesLeft,
     OutputTooShort,
     RangePastEnd,
+    NumberCut,
+    NumberLong,
+    NumberTooLarge,
+    BytesBehind,
+    PeaksCrossed,
+    FloatFile,
+    PairPastEnd,
 }
 
 // What a refusal tells besides its number.
@@ -132,6 +139,13 @@ impl Refusal {
             Refusal::TemplateBytesLeft => 46, // bytes left in a template group
             Refusal::OutputTooShort => 50, // lent output too short
             Refusal::RangePastEnd => 51, // first frame + count over the file's frames
+            Refusal::NumberCut => 60, // a number in groups of seven bits is cut short
+            Refusal::NumberLong => 61, // its last byte is zero, after others
+            Refusal::NumberTooLarge => 62, // it is over 32 bits
+            Refusal::BytesBehind => 63, // bytes left over behind the last number
+            Refusal::PeaksCrossed => 64, // smallest above largest
+            Refusal::FloatFile => 66, // a float file, where only PCM will do
+            Refusal::PairPastEnd => 67, // asking past the last group or channel
         }
     }
 

@@ -70,7 +70,7 @@ module _ (h : Fields) (f : SampleFormat) (bs : List ℕ) (ok : Readable h f bs) 
     pub begins-next : (n : ℕ) → n ≡ sizeOf (h .depth) (part at bs) → Begins (h .depth) bs (c + 1) (at + n)
     begins-next n = begins-more (h .depth) bs c at n b (whole .run)
 
-    samples-are : (xs : List ℤ) → xs ≡ samplesOf (h .depth) (part at bs) → xs ≡ getD chans c []
+    pub samples-are : (xs : List ℤ) → xs ≡ samplesOf (h .depth) (part at bs) → xs ≡ getD chans c []
     samples-are xs e = e ∙ ap (samplesOf (h .depth)) (sym here) ∙ sym (channel-is c l)
 
     pub put-turn : (first skip n : ℕ) (s xs : List ℤ) → xs ≡ samplesOf (h .depth) (part at bs)
@@ -78,11 +78,11 @@ module _ (h : Fields) (f : SampleFormat) (bs : List ℕ) (ok : Readable h f bs) 
     put-turn first skip n s xs e = put-more first skip n (h .channels) c chans s xs (samples-are xs e)
 
   -- ---- without mid/side, which needs two channels, as they are coded
-  plain : midBit bs ≡ false → channelsOf h f bs ≡ chans
+  pub plain : midBit bs ≡ false → channelsOf h f bs ≡ chans
   unfolding channelsOf
   plain e = rw e
 
-  not-mid : (h .channels ≡ 2 → ⊥) → midBit bs ≡ false
+  pub not-mid : (h .channels ≡ 2 → ⊥) → midBit bs ≡ false
   not-mid n = by (midBit bs) refl
     where
       by : (t : Bool) → midBit bs ≡ t → t ≡ false

@@ -34,7 +34,7 @@ pub fn check_group(h: Fields, format: SampleFormat, bs: &[u8]) -> Checked
 }
 
 // Two channels, in the scratch of both.
-fn read_pair(h: Fields, format: SampleFormat, bs: &[u8]) -> [[i32; 512]; 2]
+pub fn read_pair(h: Fields, format: SampleFormat, bs: &[u8]) -> [[i32; 512]; 2]
     requires { ⌜ (Readable h format (now bs)) × (h .channels ≡ 2) ⌝ }
     ensures { λ r. ⌜ r ≡ channelsOf h format (now (bs .entry)) ⌝ }
 {

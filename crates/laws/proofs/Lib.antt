@@ -17,6 +17,7 @@ pub mod Misfits
 pub mod Up
 pub mod Halves
 pub mod SampleBytes
+pub mod SevenBits
 -- channels of samples: taken apart, as mid and side, and what the writers' checks tell of them
 pub mod Channels
 pub mod Stereo
@@ -35,3 +36,6 @@ pub mod Templates
 pub mod TemplateFiles
 -- where the checks refuse: those that name nothing, the first of those in order, and that a group's number is small
 pub mod Located
+-- peaks: the extremes of samples, and summaries
+pub mod Extremes
+pub mod Summaries

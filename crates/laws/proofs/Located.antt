@@ -277,7 +277,7 @@ module _ (P : Refusal → Place → Type 0) (s : List ℕ) (test : ℕ → Bool)
       and-says entries)
       and-says from (3 ∷ []) _ (first-says h s) refl
 
--- ---- the numbers that reading says of an opening and of a group pass a test which each of these passes
+-- ---- the numbers that reading says of an opening, of a group and of a file pass a test which each of these passes
 abbrev pub groupNumbers : List ℕ
 groupNumbers = 22 ∷ 1 ∷ 3 ∷ 20 ∷ 21 ∷ 4 ∷ []
 
@@ -305,6 +305,12 @@ module _ (test : ℕ → Bool) where
       each-passes (λ c. checkBlock h f c (fromBlock (h .depth) group c)) atChannel (h .channels)
       (λ c. only-says (1 ∷ 3 ∷ 20 ∷ 21 ∷ 4 ∷ []) _ (block-says h f c _) (Passes test) test (and-right (test 22) _ all) (λ r e. e))
       and-says says-refuse (Passes test) _ BytesLeft (and-left (test 22) _ all)
+
+  pub decode-passes : every test (19 ∷ openNumbers) ≡ true → every test groupNumbers ≡ true → (s : List ℕ) → Says (Passes test) (checkDecode s)
+  unfolding checkDecode
+  decode-passes all also s =
+      let h = fieldsOf s in
+      open-passes all s and-says each-passes (λ g. checkGroup h (formatOf s h) (groupBytes s h g)) atGroup (groupsOf (h .frames)) (λ g. group-passes also h (formatOf s h) _)
 
 -- ---- numbers of a header: a file has fewer than 2 ^ 16 channels, and at most 2 ^ 23 groups
 module _ (s : List ℕ) (byte : Below 256 s) where

@@ -11,8 +11,22 @@ use lib.Seq.{length-take-le}
 use borrow.Author.Tests.{eq-eqb, ne-eqb, eqb-true, eqb-false, ltb-true}
 use Rattle.format.specs.Lists.{from, same, every}
 use Rattle.format.specs.Numbers.{num, numAt, Below}
-use Rattle.laws.proofs.Tests.{and-left, and-right}
+use Rattle.laws.proofs.Tests.{never, and-left, and-right}
 use Rattle.laws.proofs.Each.{each-take}
+
+-- ---- the test of two lists
+
+pub same-equal : (xs ys : List ℕ) → same xs ys ≡ true → xs ≡ ys
+unfolding same
+same-equal [] [] e = refl
+same-equal [] (y ∷ ys) e = never (sym e)
+same-equal (x ∷ xs) [] e = never (sym e)
+same-equal (x ∷ xs) (y ∷ ys) e = ap₂ (λ (a : ℕ) (l : List ℕ). a ∷ l) (eqb-true x y (and-left _ _ e)) (same-equal xs ys (and-right (eqb x y) _ e))
+
+pub same-itself : (xs : List ℕ) → same xs xs ≡ true
+unfolding same
+same-itself [] = refl
+same-itself (x ∷ xs) = ap₂ (λ (a b : Bool). a && b) (eq-eqb x x refl) (same-itself xs)
 
 -- ---- lists of digits are equal where their numbers are
 

@@ -1,9 +1,11 @@
 -- What holds of a file that opens: each check that passed, read backwards.
-use Prim.Native.Nat.{ℕ, _+_, _-_, _*_, _≤_, _<_}
-use mathlib.Core.Path.{_≡_, subst}
+use Prim.Native.Nat.{ℕ, zero, suc, _+_, _-_, _*_, _≤_, _<_}
+use mathlib.Core.Path.{_≡_, ap, subst}
 use mathlib.Core.Bool.{Bool, true, false, _||_}
 use mathlib.Core.List.{List}
 use native.Mathlib.Omega.{arith}
+use native.Mathlib.Nat.{mul-suc, mul-comm, mul-assoc}
+use native.Mathlib.Numerals.{add-one}
 use lib.ListN.{length}
 use lib.Dec.{ltb}
 use borrow.Author.Tests.{ltb-false, eqb-true, eqb-false, not-false}
@@ -108,3 +110,23 @@ pub first-within : (s : List ℕ) (h : Fields) → checkFields h ≡ Fine → ch
 first-within s h f o t some =
     let l : 0 < groupsOf (h .frames) = omega arith in
     omega (arith, some-channels h f, data-within h (length s) o, end-within s h t 0 l, entry-room s h t 0 l)
+
+-- the data has at least 80 bytes for each block, behind the header and the table
+module _ (s : List ℕ) (opened : checkOpen s ≡ Fine) where
+  entries-grow : (k : ℕ) → k ≤ groupsOf (fieldsOf s .frames) → 80 * fieldsOf s .channels * k ≤ entry s (fieldsOf s) k
+  entries-grow zero l = omega arith
+  entries-grow (suc k) l =
+      let h = fieldsOf s in
+      let t = opened-table s opened in
+      let e = ap (entry s h) (add-one k) in
+      omega (arith, entries-grow k (omega arith), mul-suc (80 * h .channels) k, entry-rises s h t k (omega arith), entry-room s h t k (omega arith), e)
+
+  pub blocks-take : 120 + 80 * (groupsOf (fieldsOf s .frames) * fieldsOf s .channels) ≤ length s
+  unfolding checkOffsets checkTable
+  blocks-take =
+      let h = fieldsOf s in
+      let n = groupsOf (h .frames) in
+      let o = opened-offsets s opened in
+      let low = ltb-false (h .table) 120 (passed _ _ (first-fine _ _ o)) in
+      let last = eqb-true (entry s h n) (h .size) (not-false _ (passed _ _ (first-fine _ _ (opened-table s opened)))) in
+      omega (arith, entries-grow n (omega arith), mul-assoc 80 (h .channels) n, mul-comm (h .channels) n, data-past h (length s) o, data-within h (length s) o)

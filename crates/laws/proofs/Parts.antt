@@ -58,6 +58,12 @@ module _ {A : Type 0} where
   pub length-even : (P : ℕ → List A) (w : ℕ) → ((k : ℕ) → length (P k) ≡ w) → (n : ℕ) → length (joined P n) ≡ w * n
   length-even P w h n = length-below P w n (λ k l. h k)
 
+  -- parts of at most so much
+  pub length-most : (P : ℕ → List A) (w : ℕ) → ((k : ℕ) → length (P k) ≤ w) → (n : ℕ) → length (joined P n) ≤ w * n
+  unfolding joined
+  length-most P w h zero = omega arith
+  length-most P w h (suc n) = omega (arith, length-append (joined P n) (P n), length-most P w h n, h n, mul-suc w n)
+
   -- more parts take no less
   pub length-mono : (P : ℕ → List A) (k n : ℕ) → k ≤ n → length (joined P k) ≤ length (joined P n)
   length-mono P k zero l = let e : k ≡ 0 = omega arith in rw e (omega arith)

@@ -36,7 +36,7 @@ leb-ltb a b = by (ltb a b) refl
     by true e = lt-leb b a (ltb-true a b e)
     by false e = le-leb b a (ltb-false a b e)
 
-leZ-ltZ : (a b : ℤ) → leZ b a ≡ not (ltZ a b)
+pub leZ-ltZ : (a b : ℤ) → leZ b a ≡ not (ltZ a b)
 leZ-ltZ (pos a) (pos b) = leb-ltb a b
 leZ-ltZ (pos a) (negsuc b) = refl
 leZ-ltZ (negsuc a) (pos b) = refl

@@ -42,7 +42,7 @@ told-frames s b first count a r e p = e ∙ ap (λ (x : Answer). result (x .outc
 
 -- ---- samples xs put into bytes, where the checks of so much room have passed
 module _ (check : ℕ → Checked) (xs : List ℤ) (fits : (room : ℕ) → check room ≡ Fine → length xs ≤ room) where
-  bytes-put : (b d : List ℕ) → Below 256 b → Below 256 d → samplesFrom d ≡ filled (check (length (samplesFrom b))) xs (samplesFrom b) → drop (length d / 4 * 4) d ≡ drop (length b / 4 * 4) b
+  pub bytes-put : (b d : List ℕ) → Below 256 b → Below 256 d → samplesFrom d ≡ filled (check (length (samplesFrom b))) xs (samplesFrom b) → drop (length d / 4 * 4) d ≡ drop (length b / 4 * 4) b
       → d ≡ filled (check (length b / 4)) (sampleBytes xs) b
   bytes-put b d hb hd p q = by (check (length b / 4)) refl (rw (length-lent b) at p)
     where

@@ -5,3 +5,4 @@ pub mod Host
 pub mod Writers
 pub mod Encoding
 pub mod Reencoding
+pub mod Peaks

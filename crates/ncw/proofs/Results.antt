@@ -1,13 +1,14 @@
 -- The host's number of an outcome: which it is, and that it fits.
 use Prim.Native.Nat.{ℕ, _+_, _*_, _^_, _<_}
-use mathlib.Core.Path.{_≡_, sym, ap, _∙_}
+use mathlib.Core.Path.{_≡_, refl, sym, ap, _∙_}
 use mathlib.Core.List.{List}
-use mathlib.Core.Bool.{true, false}
+use mathlib.Core.Bool.{Bool, true, false}
 use native.Mathlib.Omega.{arith}
 use lib.ListN.{length}
 use lib.IntN.{ℤ}
 use mir.Syntax.{w64}
 use mir.Val.{Fits}
+use Rattle.format.specs.Lists.{same}
 use Rattle.format.specs.Numbers.{Below}
 use Rattle.format.specs.Header.{fieldsOf}
 use Rattle.format.specs.Units.{samplesIn}
@@ -16,12 +17,14 @@ use Rattle.format.specs.Answers.{answered}
 use Rattle.format.specs.Opening.{checkOpen, headerOf, openOf}
 use Rattle.format.specs.Decoding.{checkDecode, checkRoom, decodeOf}
 use Rattle.format.specs.FewFrames.{checkFramesInto, readFramesOf}
+use Rattle.format.specs.Peaks.{summaryOf, checkPeaks, checkPeaksInto, buildPeaksOf, verdict, comparePeaksOf, pairCount, checkSummary, checkPeak, pairsRead, readPeakOf, checkAllPeaks, readPeaksOf}
 use Rattle.format.specs.Encoding.{encodedFile, checkEncodeInto, encodeOf}
 use Rattle.format.specs.Reencoding.{checkReencodeInto, reencodeOf}
-use Rattle.format.specs.Boundary.{result}
+use Rattle.format.specs.Boundary.{samplesFrom, result}
 use Rattle.format.specs.declared.units.Frames.{Frames}
 use Rattle.format.specs.declared.units.Samples.{Samples}
 use Rattle.format.specs.declared.refusals.Refusal.{Refusal}
+use Rattle.format.specs.declared.refusals.Refusal.the-variants.{OutputTooShort}
 use Rattle.format.specs.declared.refusals.Checked.{Checked}
 use Rattle.format.specs.declared.refusals.Checked.the-variants.{Fine, No}
 use Rattle.format.specs.declared.settings.PcmSpec.{PcmSpec}
@@ -33,6 +36,8 @@ use Rattle.format.specs.declared.answers.Outcome.the-variants.{Opened, Read, Wr
 use Rattle.format.proofs.UnitLaws.{product-below}
 use Rattle.laws.proofs.Tests.{never}
 use Rattle.laws.proofs.Reading.{number-lt}
+use Rattle.laws.proofs.Checks.{has-room}
+use Rattle.lent_samples.proofs.Laws.{length-lent}
 
 -- ---- which it is
 module _ (o : Outcome) where
@@ -56,9 +61,12 @@ pub read-fits : (o : Outcome) (n : Samples) → ((m : Samples) → o ≡ Read m 
 read-fits o n few e = record { fits = few n e }
 
 -- what is answered counts samples that were read only where it is so on success
+fine-reads-few : (k : Checked) (o : Outcome) (n : Samples) → (k ≡ Fine → o ≡ Read n → 4 * n .0 < 2 ^ 64) → answered k o .outcome ≡ Read n → 4 * n .0 < 2 ^ 64
+fine-reads-few Fine o n few q = few refl q
+fine-reads-few (No r at) o n few q = let none : true ≡ false = cc in never none
+
 reads-few : (k : Checked) (o : Outcome) (n : Samples) → (o ≡ Read n → 4 * n .0 < 2 ^ 64) → answered k o .outcome ≡ Read n → 4 * n .0 < 2 ^ 64
-reads-few Fine o n few q = few q
-reads-few (No r at) o n few q = let none : true ≡ false = cc in never none
+reads-few k o n few = fine-reads-few k o n (λ fine. few)
 
 pub refused-reads-none : (r : Refusal) (n : Samples) → Refused r ≡ Read n → 4 * n .0 < 2 ^ 64
 refused-reads-none r n q = let none : true ≡ false = cc in never none
@@ -87,9 +95,40 @@ pub frames-read-few : (s : List ℕ) (first count : Frames) (room : ℕ) (a : An
 unfolding readFramesOf
 frames-read-few s first count room a fits byte e = frames-few s count (checkFramesInto s first count room) a fits byte e
 
+-- pairs, as many samples as two for each: one, or as many as there is room for in bytes
+pub peak-reads-few : (s : List ℕ) (g c room : ℕ) (a : Answer) → a ≡ readPeakOf s g c room → (n : Samples) → a .outcome ≡ Read n → 4 * n .0 < 2 ^ 64
+unfolding readPeakOf
+peak-reads-few s g c room a e n p = reads-few (checkPeak s g c room) (Read (pairsRead 1)) n few (sym (ap (λ (x : Answer). x .outcome) e) ∙ p)
+  where
+    few : Read (pairsRead 1) ≡ Read n → 4 * n .0 < 2 ^ 64
+    few q = let m : pairsRead 1 ≡ n = cc in omega (arith, ap (λ (x : Samples). x .0) m)
+
+pub peaks-read-few : (s b : List ℕ) (a : Answer) → length b < 2 ^ 64 → a ≡ readPeaksOf s (length (samplesFrom b)) → (n : Samples) → a .outcome ≡ Read n → 4 * n .0 < 2 ^ 64
+unfolding readPeaksOf checkAllPeaks
+peaks-read-few s b a long e n p =
+    fine-reads-few (checkAllPeaks s (length (samplesFrom b))) (Read (pairsRead (pairCount s))) n few (sym (ap (λ (x : Answer). x .outcome) e) ∙ p)
+  where
+    few : checkAllPeaks s (length (samplesFrom b)) ≡ Fine → Read (pairsRead (pairCount s)) ≡ Read n → 4 * n .0 < 2 ^ 64
+    few fine q =
+        let m : pairsRead (pairCount s) ≡ n = cc in
+        omega (arith, ap (λ (x : Samples). x .0) m, has-room (checkSummary s) (length (samplesFrom b)) (2 * pairCount s) OutputTooShort fine, length-lent b)
+
+-- a comparison answers yes or no
+pub compare-reads-none : (b s : List ℕ) (a : Answer) → a ≡ comparePeaksOf b s → (n : Samples) → a .outcome ≡ Read n → 4 * n .0 < 2 ^ 64
+unfolding comparePeaksOf
+compare-reads-none b s a e n p = reads-few (checkPeaks s) (verdict (same b (summaryOf s))) n (by (same b (summaryOf s))) (sym (ap (λ (x : Answer). x .outcome) e) ∙ p)
+  where
+    by : (t : Bool) → verdict t ≡ Read n → 4 * n .0 < 2 ^ 64
+    by true q = let none : true ≡ false = cc in never none
+    by false q = let none : true ≡ false = cc in never none
+
 -- a writer answers what it wrote
 wrote-reads-none : (k : Checked) (w : ℕ) (a : Answer) → a ≡ answered k (Wrote w) → (n : Samples) → a .outcome ≡ Read n → 4 * n .0 < 2 ^ 64
 wrote-reads-none k w a e n q = reads-few k (Wrote w) n (λ r. let none : true ≡ false = cc in never none) (sym (ap (λ (x : Answer). x .outcome) e) ∙ q)
+
+pub build-reads-none : (s : List ℕ) (room : ℕ) (a : Answer) → a ≡ buildPeaksOf s room → (n : Samples) → a .outcome ≡ Read n → 4 * n .0 < 2 ^ 64
+unfolding buildPeaksOf
+build-reads-none s room = wrote-reads-none (checkPeaksInto s room) (length (summaryOf s))
 
 pub encode-reads-none :
     (p : PcmSpec) (mode : StereoMode) (s : List ℤ) (room : ℕ) (a : Answer) → a ≡ encodeOf p mode s room → (n : Samples) → a .outcome ≡ Read n → 4 * n .0 < 2 ^ 64

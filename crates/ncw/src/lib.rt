@@ -19,6 +19,7 @@ ghost use Rattle.format.specs.declared.units.Samples.{Samples};
 ghost use Rattle.format.specs.declared.answers.Outcome.the-variants.{Read};
 ghost use Rattle.format.specs.Boundary.{modeOf, result};
 ghost use Rattle.format.specs.Promises.{HostOpens, HostDecodes, HostReadsFrames, HostEncodes, HostReencodes};
+ghost use Rattle.format.specs.Promises.{HostBuildsPeaks, HostReadsPeak, HostReadsPeaks, HostComparesPeaks};
 ghost use Rattle.format.specs.Promises.{HostDecodeRefuses, HostReencodeRefuses};
 
 // The length in bytes (for opening, what decoding would write), or 2^63 plus the refusal number.
@@ -35,6 +36,8 @@ fn result(outcome: Outcome) -> u64
         Outcome::Wrote(n) => n,
         Outcome::Refused(r) => 0x8000_0000_0000_0000 + r.number() as u64,
         Outcome::Finished => 0,
+        Outcome::Matches => 1,
+        Outcome::Differs => 0,
     }
 }
 
@@ -73,6 +76,46 @@ pub extern "C" fn ncw_read_frames(file: &[u8], first: u32, count: u32, samples: 
         &mut [],
         samples,
     );
+    let outcome = answer.outcome;
+    result(outcome)
+}
+
+// Builds the summary of a file's peaks into `summary`.
+#[no_mangle]
+pub extern "C" fn ncw_peaks(file: &[u8], summary: &mut [u8]) -> u64
+    ensures { λ r. ⌜ HostBuildsPeaks (now (file .entry)) (now (summary .entry)) r (now (summary .exit)) ⌝ }
+{
+    let answer = peaks::build_peaks(file, summary);
+    let outcome = answer.outcome;
+    result(outcome)
+}
+
+// Reads the pair of a group and a channel from a summary into `pair`: the smallest, the largest.
+#[no_mangle]
+pub extern "C" fn ncw_peak(summary: &[u8], group: u32, channel: u32, pair: &mut [u8]) -> u64
+    ensures { λ r. ⌜ HostReadsPeak (now (summary .entry)) group channel (now (pair .entry)) r (now (pair .exit)) ⌝ }
+{
+    let answer = summary::read_peak_lent(Container::Bytes, summary, group, channel, &mut [], pair);
+    let outcome = answer.outcome;
+    result(outcome)
+}
+
+// Reads all pairs of a summary into `pairs`, groups in order and channels within.
+#[no_mangle]
+pub extern "C" fn ncw_peaks_all(summary: &[u8], pairs: &mut [u8]) -> u64
+    ensures { λ r. ⌜ HostReadsPeaks (now (summary .entry)) (now (pairs .entry)) r (now (pairs .exit)) ⌝ }
+{
+    let answer = summary::read_peaks_lent(Container::Bytes, summary, &mut [], pairs);
+    let outcome = answer.outcome;
+    result(outcome)
+}
+
+// Whether the bytes are the summary of a file: 1 yes, 0 no.
+#[no_mangle]
+pub extern "C" fn ncw_peaks_check(summary: &[u8], file: &[u8]) -> u64
+    ensures { λ r. ⌜ HostComparesPeaks (now (summary .entry)) (now (file .entry)) r ⌝ }
+{
+    let answer = peaks::compare_peaks(summary, file);
     let outcome = answer.outcome;
     result(outcome)
 }

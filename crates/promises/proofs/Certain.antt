@@ -1,12 +1,13 @@
 -- When a call refuses, that what is allowed is one outcome, and that a refusal changes nothing: for every public
 -- function, over what it promises.
-use Prim.Native.Nat.{ℕ, _/_, _^_, _≤_, _<_}
+use Prim.Native.Nat.{ℕ, _*_, _/_, _^_, _≤_, _<_}
 use mathlib.Core.Path.{_≡_, refl, sym, _∙_}
 use mathlib.Core.Bool.{Bool, true, false, cond}
 use mathlib.Core.List.{List, []}
 use native.Mathlib.Omega.{arith}
 use lib.ListN.{length}
 use lib.IntN.{ℤ}
+use Rattle.format.specs.Lists.{same}
 use Rattle.format.specs.Numbers.{Below}
 use Rattle.format.specs.Refusals.{_then_}
 use Rattle.format.specs.Answers.{refusedBy, answered, filled}
@@ -14,10 +15,12 @@ use Rattle.format.specs.Opening.{checkOpen, headerOf, openOf}
 use Rattle.format.specs.Decoding.{checkDecode, decodedOf, decodedCount, checkRoom, decodeOf, decodeInto}
 use Rattle.format.specs.Walking.{stepSamples, stepCount, hasGroup, checkWalk, stepOf, stepInto}
 use Rattle.format.specs.FewFrames.{checkFrames, framesCount, checkFramesInto, framesAt, readFramesOf, readFramesInto}
+use Rattle.format.specs.Peaks.{summaryOf, checkPeaks, checkPeaksInto, buildPeaksOf, buildPeaksInto, verdict, comparePeaksOf, pairCount, pairNumber, pairsRead, pairsFrom, checkSummary, checkPeak, readPeakOf, readPeakInto, checkAllPeaks, readPeaksOf, readPeaksInto}
 use Rattle.format.specs.Encoding.{encodedFile, checkEncode, checkEncodeInto, encodeOf, encodeInto}
 use Rattle.format.specs.Reencoding.{reencodedFile, checkReencode, checkReencodeInto, reencodeOf, reencodeInto}
-use Rattle.format.specs.Boundary.{samplesFrom, sampleBytes, modeOf, checkMode, checkBytes, result, hostDecode, hostDecodeInto, hostReadFrames, hostReadFramesInto, checkHostEncode, hostEncode, hostEncodeInto, checkHostReencode, hostReencode, hostReencodeInto}
-use Rattle.format.specs.Promises.{Opens, Decodes, Steps, Advances, ReadsFrames, Encodes, Reencodes, HostOpens, HostDecodes, HostReadsFrames, HostEncodes, HostReencodes, HostDecodeRefuses, HostReencodeRefuses}
+use Rattle.format.specs.Boundary.{samplesFrom, sampleBytes, modeOf, checkMode, checkBytes, result, hostDecode, hostDecodeInto, hostReadFrames, hostReadFramesInto, hostPeaks, hostPeak, hostPeakInto, hostPeaksAll, hostPeaksAllInto, checkHostEncode, hostEncode, hostEncodeInto, checkHostReencode, hostReencode, hostReencodeInto}
+use Rattle.format.specs.Promises.{Opens, Decodes, Steps, Advances, ReadsFrames, BuildsPeaks, ComparesPeaks, ReadsPeak, ReadsPeaks, Encodes, Reencodes, HostOpens, HostDecodes, HostReadsFrames, HostEncodes, HostReencodes, HostDecodeRefuses, HostReencodeRefuses}
+use Rattle.format.specs.Promises.{HostBuildsPeaks, HostComparesPeaks, HostReadsPeak, HostReadsPeaks}
 use Rattle.format.specs.declared.units.Frames.{Frames}
 use Rattle.format.specs.declared.units.Samples.{Samples}
 use Rattle.format.specs.declared.refusals.Refusal.{Refusal}
@@ -45,6 +48,11 @@ pub record RefusedExactly : Type 0 where
   pub steps : (s : List ℕ) (g : ℕ) (lent after : List ℤ) (r : Answer) (x : Refusal) (at : Place) → Steps s g lent r after → Exactly (r ≡ refusedBy x at) (checkWalk s g (length lent) ≡ No x at)
   pub reads-frames : (s : List ℕ) (first count : Frames) (lent after : List ℤ) (r : Answer) (x : Refusal) (at : Place) → ReadsFrames s first count lent r after
       → Exactly (r ≡ refusedBy x at) (checkFramesInto s first count (length lent) ≡ No x at)
+  pub builds-peaks : (s lent after : List ℕ) (r : Answer) (x : Refusal) (at : Place) → BuildsPeaks s lent r after → Exactly (r ≡ refusedBy x at) (checkPeaksInto s (length lent) ≡ No x at)
+  pub compares-peaks : (b s : List ℕ) (r : Answer) (x : Refusal) (at : Place) → ComparesPeaks b s r → Exactly (r ≡ refusedBy x at) (checkPeaks s ≡ No x at)
+  pub reads-peak : (s : List ℕ) (g c : ℕ) (lent after : List ℤ) (r : Answer) (x : Refusal) (at : Place) → ReadsPeak s g c lent r after
+      → Exactly (r ≡ refusedBy x at) (checkPeak s g c (length lent) ≡ No x at)
+  pub reads-peaks : (s : List ℕ) (lent after : List ℤ) (r : Answer) (x : Refusal) (at : Place) → ReadsPeaks s lent r after → Exactly (r ≡ refusedBy x at) (checkAllPeaks s (length lent) ≡ No x at)
   pub encodes : (p : PcmSpec) (mode : StereoMode) (s : List ℤ) (lent after : List ℕ) (r : Answer) (x : Refusal) (at : Place) → Encodes p mode s lent r after
       → Exactly (r ≡ refusedBy x at) (checkEncodeInto p mode s (length lent) ≡ No x at)
   pub reencodes : (p : PcmSpec) (s : List ℤ) (t lent after : List ℕ) (r : Answer) (x : Refusal) (at : Place) → Reencodes p s t lent r after
@@ -54,8 +62,12 @@ left-or-done : (b : Bool) (n : Samples) → isRefused (cond b (Read n) Finished)
 left-or-done true n = refl
 left-or-done false n = refl
 
+yes-or-no : (b : Bool) → isRefused (verdict b) ≡ false
+yes-or-no true = refl
+yes-or-no false = refl
+
 pub refused-exactly : RefusedExactly
-unfolding openOf decodeOf stepOf readFramesOf encodeOf reencodeOf
+unfolding openOf decodeOf stepOf readFramesOf buildPeaksOf comparePeaksOf readPeakOf readPeaksOf encodeOf reencodeOf
 refused-exactly =
     record {
       opens = λ s r x at e. exactly-no (checkOpen s) (Opened (headerOf s)) refl x at r e;
@@ -63,6 +75,10 @@ refused-exactly =
       steps = λ s g lent after r x at e.
           exactly-no (checkWalk s g (length lent)) (cond (hasGroup s g) (Read (stepCount s g)) Finished) (left-or-done (hasGroup s g) (stepCount s g)) x at r (e .0);
       reads-frames = λ s first count lent after r x at e. exactly-no (checkFramesInto s first count (length lent)) (Read (framesCount s count)) refl x at r (e .0);
+      builds-peaks = λ s lent after r x at e. exactly-no (checkPeaksInto s (length lent)) (Wrote (length (summaryOf s))) refl x at r (e .0);
+      compares-peaks = λ b s r x at e. exactly-no (checkPeaks s) (verdict (same b (summaryOf s))) (yes-or-no (same b (summaryOf s))) x at r e;
+      reads-peak = λ s g c lent after r x at e. exactly-no (checkPeak s g c (length lent)) (Read (pairsRead 1)) refl x at r (e .0);
+      reads-peaks = λ s lent after r x at e. exactly-no (checkAllPeaks s (length lent)) (Read (pairsRead (pairCount s))) refl x at r (e .0);
       encodes = λ p mode s lent after r x at e. exactly-no (checkEncodeInto p mode s (length lent)) (Wrote (length (encodedFile p mode s))) refl x at r (e .0);
       reencodes = λ p s t lent after r x at e. exactly-no (checkReencodeInto p s t (length lent)) (Wrote (length t)) refl x at r (e .0);
     }
@@ -102,20 +118,31 @@ pub record OneOutcome : Type 1 where
   pub advances : (s : List ℕ) (g : ℕ) (lent : List ℤ) (r r′ : Answer) (after after′ : List ℤ) (next next′ : ℕ)
       → Advances s g lent r after next → Advances s g lent r′ after′ next′ → (r ≡ r′) × (after ≡ after′) × (next ≡ next′)
   pub reads-frames : (s : List ℕ) (first count : Frames) (lent : List ℤ) → One (ReadsFrames s first count lent)
+  pub builds-peaks : (s lent : List ℕ) → One (BuildsPeaks s lent)
+  pub compares-peaks : (b s : List ℕ) (r r′ : Answer) → ComparesPeaks b s r → ComparesPeaks b s r′ → r ≡ r′
+  pub reads-peak : (s : List ℕ) (g c : ℕ) (lent : List ℤ) → One (ReadsPeak s g c lent)
+  pub reads-peaks : (s : List ℕ) (lent : List ℤ) → One (ReadsPeaks s lent)
   pub encodes : (p : PcmSpec) (mode : StereoMode) (s : List ℤ) (lent : List ℕ) → One (Encodes p mode s lent)
   pub reencodes : (p : PcmSpec) (s : List ℤ) (t lent : List ℕ) → One (Reencodes p s t lent)
   pub host-decodes : (s lent : List ℕ) → One (HostDecodes s lent)
   pub host-reads-frames : (s : List ℕ) (first count : Frames) (lent : List ℕ) → One (HostReadsFrames s first count lent)
+  pub host-builds-peaks : (s lent : List ℕ) → One (HostBuildsPeaks s lent)
+  pub host-compares-peaks : (b s : List ℕ) (r r′ : ℕ) → HostComparesPeaks b s r → HostComparesPeaks b s r′ → r ≡ r′
+  pub host-reads-peak : (s : List ℕ) (g c : ℕ) (lent : List ℕ) → One (HostReadsPeak s g c lent)
+  pub host-reads-peaks : (s lent : List ℕ) → One (HostReadsPeaks s lent)
   pub host-encodes : (b : List ℕ) (p : PcmSpec) (mode : ℕ) (lent : List ℕ) → One (HostEncodes b p mode lent)
   pub host-reencodes : (b : List ℕ) (p : PcmSpec) (t lent : List ℕ) → One (HostReencodes b p t lent)
   -- the words of what decoding and re-encoding would refuse, and where
   pub host-decode-refuses : (s : List ℕ) (room r r′ : ℕ) → HostDecodeRefuses s room r → HostDecodeRefuses s room r′ → r ≡ r′
   pub host-reencode-refuses : (b : List ℕ) (p : PcmSpec) (t : List ℕ) (room r r′ : ℕ) → HostReencodeRefuses b p t room r → HostReencodeRefuses b p t room r′ → r ≡ r′
-  -- samples lent in either container: decode_lent, decode_group_lent, read_frames_lent
+  -- samples lent in either container: decode_lent, decode_group_lent, read_frames_lent, and the pairs of a summary
   pub decodes-lent : (s : List ℕ) (which : Container) (words : List ℤ) (bytes : List ℕ) → OneInEither (Decodes s (lentOf which words bytes)) which words bytes
   pub steps-lent : (s : List ℕ) (g : ℕ) (which : Container) (words : List ℤ) (bytes : List ℕ) → OneInEither (Steps s g (lentOf which words bytes)) which words bytes
   pub reads-frames-lent : (s : List ℕ) (first count : Frames) (which : Container) (words : List ℤ) (bytes : List ℕ)
       → OneInEither (ReadsFrames s first count (lentOf which words bytes)) which words bytes
+  pub reads-peak-lent : (s : List ℕ) (g c : ℕ) (which : Container) (words : List ℤ) (bytes : List ℕ)
+      → OneInEither (ReadsPeak s g c (lentOf which words bytes)) which words bytes
+  pub reads-peaks-lent : (s : List ℕ) (which : Container) (words : List ℤ) (bytes : List ℕ) → OneInEither (ReadsPeaks s (lentOf which words bytes)) which words bytes
 
 pub one-outcome-each : OneOutcome
 one-outcome-each =
@@ -127,10 +154,18 @@ one-outcome-each =
       steps = λ s g lent. equations _ _;
       advances = λ s g lent r r′ after after′ next next′ p q. (p .0 .0 ∙ sym (q .0 .0), p .0 .1 ∙ sym (q .0 .1), p .1 ∙ sym (q .1));
       reads-frames = λ s first count lent. equations _ _;
+      builds-peaks = λ s lent. equations _ _;
+      compares-peaks = λ b s r r′ p q. p ∙ sym q;
+      reads-peak = λ s g c lent. equations _ _;
+      reads-peaks = λ s lent. equations _ _;
       encodes = λ p mode s lent. equations _ _;
       reencodes = λ p s t lent. equations _ _;
       host-decodes = λ s lent. equations _ _;
       host-reads-frames = λ s first count lent. equations _ _;
+      host-builds-peaks = λ s lent. equations _ _;
+      host-compares-peaks = λ b s r r′ p q. p ∙ sym q;
+      host-reads-peak = λ s g c lent. equations _ _;
+      host-reads-peaks = λ s lent. equations _ _;
       host-encodes = λ b p mode lent. equations _ _;
       host-reencodes = λ b p t lent. equations _ _;
       host-decode-refuses = λ s room r r′ p q. p ∙ sym q;
@@ -138,6 +173,8 @@ one-outcome-each =
       decodes-lent = λ s which words bytes. in-either _ (equations _ _) which words bytes;
       steps-lent = λ s g which words bytes. in-either _ (equations _ _) which words bytes;
       reads-frames-lent = λ s first count which words bytes. in-either _ (equations _ _) which words bytes;
+      reads-peak-lent = λ s g c which words bytes. in-either _ (equations _ _) which words bytes;
+      reads-peaks-lent = λ s which words bytes. in-either _ (equations _ _) which words bytes;
     }
 
 -- ---- 8. REFUSALS CHANGE NOTHING
@@ -160,16 +197,25 @@ pub record RefusalsKeep : Type 0 where
   -- and the walk stays where it is
   pub advances : (s : List ℕ) (g : ℕ) (lent after : List ℤ) (x : Refusal) (at : Place) (next : ℕ) → Advances s g lent (refusedBy x at) after next → (after ≡ lent) × (next ≡ g)
   pub reads-frames : (s : List ℕ) (first count : Frames) (lent : List ℤ) → Keeps (ReadsFrames s first count lent) lent
+  pub builds-peaks : (s lent : List ℕ) → Keeps (BuildsPeaks s lent) lent
+  pub reads-peak : (s : List ℕ) (g c : ℕ) (lent : List ℤ) → Keeps (ReadsPeak s g c lent) lent
+  pub reads-peaks : (s : List ℕ) (lent : List ℤ) → Keeps (ReadsPeaks s lent) lent
   pub encodes : (p : PcmSpec) (mode : StereoMode) (s : List ℤ) (lent : List ℕ) → Keeps (Encodes p mode s lent) lent
   pub reencodes : (p : PcmSpec) (s : List ℤ) (t lent : List ℕ) → Keeps (Reencodes p s t lent) lent
   pub host-decodes : (s lent : List ℕ) → HostKeeps (HostDecodes s lent) lent
   pub host-reads-frames : (s : List ℕ) (first count : Frames) (lent : List ℕ) → HostKeeps (HostReadsFrames s first count lent) lent
+  pub host-builds-peaks : (s lent : List ℕ) → HostKeeps (HostBuildsPeaks s lent) lent
+  pub host-reads-peak : (s : List ℕ) (g c : ℕ) (lent : List ℕ) → HostKeeps (HostReadsPeak s g c lent) lent
+  pub host-reads-peaks : (s lent : List ℕ) → HostKeeps (HostReadsPeaks s lent) lent
   pub host-encodes : (b : List ℕ) (p : PcmSpec) (mode : ℕ) (lent : List ℕ) → HostKeeps (HostEncodes b p mode lent) lent
   pub host-reencodes : (b : List ℕ) (p : PcmSpec) (t lent : List ℕ) → HostKeeps (HostReencodes b p t lent) lent
   pub decodes-lent : (s : List ℕ) (which : Container) (words : List ℤ) (bytes : List ℕ) → KeepsInEither (Decodes s (lentOf which words bytes)) which words bytes
   pub steps-lent : (s : List ℕ) (g : ℕ) (which : Container) (words : List ℤ) (bytes : List ℕ) → KeepsInEither (Steps s g (lentOf which words bytes)) which words bytes
   pub reads-frames-lent : (s : List ℕ) (first count : Frames) (which : Container) (words : List ℤ) (bytes : List ℕ)
       → KeepsInEither (ReadsFrames s first count (lentOf which words bytes)) which words bytes
+  pub reads-peak-lent : (s : List ℕ) (g c : ℕ) (which : Container) (words : List ℤ) (bytes : List ℕ)
+      → KeepsInEither (ReadsPeak s g c (lentOf which words bytes)) which words bytes
+  pub reads-peaks-lent : (s : List ℕ) (which : Container) (words : List ℤ) (bytes : List ℕ) → KeepsInEither (ReadsPeaks s (lentOf which words bytes)) which words bytes
 
 decode-keeps : (s : List ℕ) (lent : List ℤ) → Keeps (Decodes s lent) lent
 unfolding decodeOf decodeInto
@@ -185,6 +231,19 @@ frames-keep : (s : List ℕ) (first count : Frames) (lent : List ℤ) → Keeps 
 unfolding readFramesOf readFramesInto
 frames-keep s first count lent x at after d =
     refused-keeps (checkFramesInto s first count (length lent)) (Read (framesCount s count)) x at (framesAt s first count) lent after refl (d .0) (d .1)
+
+build-keeps : (s lent : List ℕ) → Keeps (BuildsPeaks s lent) lent
+unfolding buildPeaksOf buildPeaksInto
+build-keeps s lent x at after d = refused-keeps (checkPeaksInto s (length lent)) (Wrote (length (summaryOf s))) x at (summaryOf s) lent after refl (d .0) (d .1)
+
+peak-keeps : (s : List ℕ) (g c : ℕ) (lent : List ℤ) → Keeps (ReadsPeak s g c lent) lent
+unfolding readPeakOf readPeakInto
+peak-keeps s g c lent x at after d = refused-keeps (checkPeak s g c (length lent)) (Read (pairsRead 1)) x at (pairsFrom s (pairNumber s g c) 1) lent after refl (d .0) (d .1)
+
+peaks-keep : (s : List ℕ) (lent : List ℤ) → Keeps (ReadsPeaks s lent) lent
+unfolding readPeaksOf readPeaksInto
+peaks-keep s lent x at after d =
+    refused-keeps (checkAllPeaks s (length lent)) (Read (pairsRead (pairCount s))) x at (pairsFrom s 0 (pairCount s)) lent after refl (d .0) (d .1)
 
 encode-keeps : (p : PcmSpec) (mode : StereoMode) (s : List ℤ) (lent : List ℕ) → Keeps (Encodes p mode s lent) lent
 unfolding encodeOf encodeInto
@@ -211,6 +270,14 @@ pub frames-short : (s : List ℕ) (first count : Frames) (room : ℕ) → room <
 unfolding checkFramesInto
 frames-short s first count room short fine = let q = has-room (checkFrames s first count) (room / 4) (framesCount s count .0) OutputTooShort fine in omega arith
 
+pub build-short : (s : List ℕ) (room : ℕ) → room < 2 ^ 63 → checkPeaksInto s room ≡ Fine → result (Wrote (length (summaryOf s))) < 2 ^ 63
+unfolding checkPeaksInto
+build-short s room short fine = let q = has-room (checkPeaks s) room (length (summaryOf s)) OutputTooShort fine in omega arith
+
+pub pairs-short : (s : List ℕ) (room : ℕ) → room < 2 ^ 63 → checkAllPeaks s (room / 4) ≡ Fine → result (Read (pairsRead (pairCount s))) < 2 ^ 63
+unfolding checkAllPeaks
+pairs-short s room short fine = let q = has-room (checkSummary s) (room / 4) (2 * pairCount s) OutputTooShort fine in omega arith
+
 pub reencode-short : (b : List ℕ) (p : PcmSpec) (t : List ℕ) (room : ℕ) → room < 2 ^ 63 → checkHostReencode b p t room ≡ Fine → result (Wrote (length t)) < 2 ^ 63
 unfolding checkHostReencode checkReencodeInto
 reencode-short b p t room short fine =
@@ -225,6 +292,20 @@ host-frames-keep : (s : List ℕ) (first count : Frames) (lent : List ℕ) → H
 unfolding hostReadFrames hostReadFramesInto readFramesOf
 host-frames-keep s first count lent =
     host-keeps (checkFramesInto s first count (length lent / 4)) (Read (framesCount s count)) (sampleBytes (framesAt s first count)) lent (frames-short s first count (length lent))
+
+host-build-keeps : (s lent : List ℕ) → HostKeeps (HostBuildsPeaks s lent) lent
+unfolding hostPeaks buildPeaksOf buildPeaksInto
+host-build-keeps s lent = host-keeps (checkPeaksInto s (length lent)) (Wrote (length (summaryOf s))) (summaryOf s) lent (build-short s (length lent))
+
+host-peak-keeps : (s : List ℕ) (g c : ℕ) (lent : List ℕ) → HostKeeps (HostReadsPeak s g c lent) lent
+unfolding hostPeak hostPeakInto readPeakOf
+host-peak-keeps s g c lent =
+    host-keeps (checkPeak s g c (length lent / 4)) (Read (pairsRead 1)) (sampleBytes (pairsFrom s (pairNumber s g c) 1)) lent (λ short fine. omega arith)
+
+host-peaks-keep : (s lent : List ℕ) → HostKeeps (HostReadsPeaks s lent) lent
+unfolding hostPeaksAll hostPeaksAllInto readPeaksOf
+host-peaks-keep s lent =
+    host-keeps (checkAllPeaks s (length lent / 4)) (Read (pairsRead (pairCount s))) (sampleBytes (pairsFrom s 0 (pairCount s))) lent (pairs-short s (length lent))
 
 host-encode-keeps : (b : List ℕ) (p : PcmSpec) (mode : ℕ) (lent : List ℕ) → HostKeeps (HostEncodes b p mode lent) lent
 unfolding hostEncode hostEncodeInto checkHostEncode checkEncodeInto
@@ -250,14 +331,22 @@ refusals-keep =
       steps = step-keeps;
       advances = λ s g lent after x at next d. let e = step-moves s g lent after (refusedBy x at) next d in (step-keeps s g lent x at after (d .0), omega arith);
       reads-frames = frames-keep;
+      builds-peaks = build-keeps;
+      reads-peak = peak-keeps;
+      reads-peaks = peaks-keep;
       encodes = encode-keeps;
       reencodes = reencode-keeps;
       host-decodes = host-decode-keeps;
       host-reads-frames = host-frames-keep;
+      host-builds-peaks = host-build-keeps;
+      host-reads-peak = host-peak-keeps;
+      host-reads-peaks = host-peaks-keep;
       host-encodes = host-encode-keeps;
       host-reencodes = host-reencode-keeps;
       decodes-lent = λ s which words bytes. keeps-in-either (Decodes s (lentOf which words bytes)) which words bytes (decode-keeps s (lentOf which words bytes));
       steps-lent = λ s g which words bytes. keeps-in-either (Steps s g (lentOf which words bytes)) which words bytes (step-keeps s g (lentOf which words bytes));
       reads-frames-lent = λ s first count which words bytes.
           keeps-in-either (ReadsFrames s first count (lentOf which words bytes)) which words bytes (frames-keep s first count (lentOf which words bytes));
+      reads-peak-lent = λ s g c which words bytes. keeps-in-either (ReadsPeak s g c (lentOf which words bytes)) which words bytes (peak-keeps s g c (lentOf which words bytes));
+      reads-peaks-lent = λ s which words bytes. keeps-in-either (ReadsPeaks s (lentOf which words bytes)) which words bytes (peaks-keep s (lentOf which words bytes));
     }

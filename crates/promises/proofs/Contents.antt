@@ -7,6 +7,7 @@ use native.Mathlib.Omega.{arith}
 use lib.ListN.{length, take, drop}
 use lib.IntN.{ℤ}
 use Rattle.format.specs.Lists.{joined, from, over}
+use Rattle.format.specs.Numbers.{Below}
 use Rattle.format.specs.Header.{fieldsOf, groupsOf, groupBytes}
 use Rattle.format.specs.Answers.{answeredBy, filled, read, wrote}
 use Rattle.format.specs.Opening.{formatOf, checkOpen, headerFor, openOf}
@@ -16,7 +17,8 @@ use Rattle.format.specs.Walking.{stepSamples}
 use Rattle.format.specs.FewFrames.{framesAt}
 use Rattle.format.specs.Encoding.{groupIn, encodedGroupAt, encodedFile, framesOf}
 use Rattle.format.specs.Reencoding.{reencodedGroup}
-use Rattle.format.specs.Promises.{Opens, Decodes, Steps, ReadsFrames, Encodes, Reencodes}
+use Rattle.format.specs.Peaks.{peakAt, summaryOf, pairCount, pairNumber, pairSamples, fromPair, pairOf}
+use Rattle.format.specs.Promises.{Opens, Decodes, Steps, ReadsFrames, BuildsPeaks, ReadsPeak, ReadsPeaks, Encodes, Reencodes}
 use Rattle.format.specs.Places.{atGroup}
 use Rattle.format.specs.declared.refusals.Checked.{Checked}
 use Rattle.format.specs.declared.units.Frames.{Frames}
@@ -39,6 +41,7 @@ use Rattle.promises.proofs.RoundTrip as RoundTrip
 use Rattle.promises.proofs.Refile as Refile
 use Rattle.promises.proofs.WalkLaws.{steps-joined, step-count, step-leaves}
 use Rattle.promises.proofs.FewFramesLaws.{range-count, range-left}
+use Rattle.promises.proofs.PeaksLaws.{built-fine, built-long, built-left, file-pair, pair-count, pair-left, pairs-count, pairs-left-at}
 use Rattle.promises.proofs.Files.{encode-ok, file-long, file-written, reencode-ok, as-long, new-file}
 use Rattle.promises.proofs.Demands.{Rate32}
 
@@ -51,6 +54,12 @@ pub record EveryGroup : Type 0 where
   pub stepped : (s : List ℕ) (g : ℕ) (lent after : List ℤ) (n : ℕ) → Steps s g lent (read n) after → take n after ≡ stepSamples s g
   -- a few frames lie at the front, each from its own group
   pub ranged : (s : List ℕ) (first count : Frames) (lent after : List ℤ) (n : ℕ) → ReadsFrames s first count lent (read n) after → take n after ≡ framesAt s first count
+  -- the summary has for group g and channel c the pair of its active samples
+  pub summarized : (s lent after : List ℕ) (n : ℕ) → Below 256 s → BuildsPeaks s lent (wrote n) after
+      → let h = fieldsOf s in (g c : ℕ) → g < groupsOf (h .frames) → c < h .channels → pairOf (fromPair (take n after) (g * h .channels + c)) ≡ peakAt s g c
+  -- a pair is read of its own bytes; all of them lie there by their numbers
+  pub paired : (s : List ℕ) (g c : ℕ) (lent after : List ℤ) (n : ℕ) → ReadsPeak s g c lent (read n) after → take n after ≡ pairSamples (pairOf (fromPair s (pairNumber s g c)))
+  pub all-paired : (s : List ℕ) (lent after : List ℤ) (n : ℕ) → ReadsPeaks s lent (read n) after → (k : ℕ) → k < pairCount s → from (2 * k) 2 after ≡ pairSamples (pairOf (fromPair s k))
   -- group g of the file is that of the samples' group g
   pub encoded : (p : PcmSpec) (mode : StereoMode) (s : List ℤ) (lent file : List ℕ) (n : ℕ) → Rate32 p → Encodes p mode s lent (wrote n) file
       → (g : ℕ) → g < groupsOf (framesOf p s) → groupBytes (take n file) (fieldsOf (take n file)) g ≡ encodedGroupAt p mode s g
@@ -99,6 +108,11 @@ every-group =
       decoded = step-lies;
       stepped = step-leaves;
       ranged = range-left;
+      summarized = λ s lent after n byte d g c l m.
+          let fine = built-fine s lent after n d in
+          ap (λ (x : List ℕ). pairOf (fromPair x (g * fieldsOf s .channels + c))) (built-left s lent after n d) ∙ file-pair s fine byte g c l m;
+      paired = pair-left;
+      all-paired = pairs-left-at;
       encoded = λ p mode s lent file n rate e g l.
           let ok = encode-ok p mode s lent file n e in
           let lay = RoundTrip.layout p mode s ok rate in
@@ -115,6 +129,10 @@ pub record LengthsAre : Type 0 where
   pub decoded : (s : List ℕ) (lent after : List ℤ) (n : ℕ) → Decodes s lent (read n) after → n ≡ fieldsOf s .frames .0 * fieldsOf s .channels
   pub stepped : (s : List ℕ) (g : ℕ) (lent after : List ℤ) (n : ℕ) → Steps s g lent (read n) after → n ≡ active (fieldsOf s .frames) g * fieldsOf s .channels
   pub ranged : (s : List ℕ) (first count : Frames) (lent after : List ℤ) (n : ℕ) → ReadsFrames s first count lent (read n) after → n ≡ count .0 * fieldsOf s .channels
+  -- as many bytes as the summary; two samples a pair
+  pub summarized : (s lent after : List ℕ) (n : ℕ) → BuildsPeaks s lent (wrote n) after → n ≡ length (summaryOf s)
+  pub paired : (s : List ℕ) (g c : ℕ) (lent after : List ℤ) (n : ℕ) → ReadsPeak s g c lent (read n) after → n ≡ 2
+  pub all-paired : (s : List ℕ) (lent after : List ℤ) (n : ℕ) → ReadsPeaks s lent (read n) after → n ≡ 2 * pairCount s
   -- the data offset and the sum of block lengths, each 16 + 64 × width
   pub encoded : (p : PcmSpec) (mode : StereoMode) (s : List ℤ) (lent file : List ℕ) (n : ℕ) → Encodes p mode s lent (wrote n) file
       → let frames = framesOf p s in n ≡ offsetOf frames + sum (λ g. blocksIn (p .«bits_per_sample») (codedAt p mode s g)) (groupsOf frames)
@@ -127,6 +145,9 @@ lengths-are =
       decoded = read-count;
       stepped = step-count;
       ranged = range-count;
+      summarized = built-long;
+      paired = pair-count;
+      all-paired = pairs-count;
       encoded = λ p mode s lent file n e. file-long p mode s lent file n e ∙ file-size p mode s;
       reencoded = as-long;
     }

@@ -12,14 +12,14 @@ use lib.Dec.{ltb, eqb}
 use borrow.Author.Tests.{ltb-true, not-true}
 use Rattle.format.specs.Lists.{every}
 use Rattle.format.specs.Numbers.{Below}
-use Rattle.format.specs.Header.{fieldsOf, groupsOf, groupBytes}
+use Rattle.format.specs.Header.{fieldsOf, groupsOf}
 use Rattle.format.specs.Refusals.{number, told, _then_}
-use Rattle.format.specs.Places.{atGroup, outside, inside, IsNamed}
+use Rattle.format.specs.Places.{outside, inside, IsNamed}
 use Rattle.format.specs.declared.places.Named.{Named}
 use Rattle.format.specs.declared.places.Named.the-variants.{NoGroup, TheGroup, TheBlock}
 use Rattle.format.specs.Answers.{answered}
-use Rattle.format.specs.Opening.{formatOf, checkOpen}
-use Rattle.format.specs.Decoding.{checkGroup, checkDecode, decodedCount, checkRoom, decodeOf}
+use Rattle.format.specs.Opening.{checkOpen}
+use Rattle.format.specs.Decoding.{checkDecode, decodedCount, checkRoom, decodeOf}
 use Rattle.format.specs.Reencoding.{checkReencodeInto}
 use Rattle.format.specs.Boundary.{samplesFrom, checkBytes, result, hostDecode, checkHostReencode, hostReencode}
 use Rattle.format.specs.Boundary.{misfitTold, refusalWord, hostDecodeRefusal, hostReencodeRefusal}
@@ -31,6 +31,7 @@ use Rattle.format.specs.declared.refusals.Refusal.the-variants.{FirstEntry, Ent
 use Rattle.format.specs.declared.refusals.Refusal.the-variants.{IncompleteFrame, ValueOutside, TooManyFrames, NotStereo, ParityDiffers, WidthTooSmall}
 use Rattle.format.specs.declared.refusals.Refusal.the-variants.{DataTooLarge, UnknownMode, SampleBytes, TemplateDiffers, TemplateBounds, TemplateOffsets}
 use Rattle.format.specs.declared.refusals.Refusal.the-variants.{ShortGroup, TemplateBits, TemplateFlags, TemplateBytesLeft, OutputTooShort, RangePastEnd}
+use Rattle.format.specs.declared.refusals.Refusal.the-variants.{NumberCut, NumberLong, NumberTooLarge, BytesBehind, PeaksCrossed, FloatFile, PairPastEnd}
 use Rattle.format.specs.declared.refusals.Place.{Place}
 use Rattle.format.specs.declared.refusals.Checked.{Checked}
 use Rattle.format.specs.declared.refusals.Checked.the-variants.{Fine, No}
@@ -39,7 +40,7 @@ use Rattle.format.specs.declared.answers.Outcome.{Outcome}
 use Rattle.format.specs.declared.answers.Outcome.the-variants.{Read, Wrote}
 use Rattle.laws.proofs.Tests.{never, and-left, and-right}
 use Rattle.laws.proofs.Checks.{unsaid, said-after}
-use Rattle.laws.proofs.Located.{says-refuse, _and-says_, says-nowhere, Passes, each-passes, open-passes, group-passes, bytes-nowhere, channels-few}
+use Rattle.laws.proofs.Located.{says-refuse, _and-says_, says-nowhere, Passes, decode-passes, bytes-nowhere, channels-few}
 use Rattle.promises.proofs.Outcomes.{Exactly}
 use Rattle.promises.proofs.Certain.{decode-short, reencode-short}
 use Rattle.promises.proofs.Misfits.{misfit-so, misfit-below}
@@ -98,6 +99,13 @@ known TemplateFlags = (refl, inl refl)
 known TemplateBytesLeft = (refl, inl refl)
 known OutputTooShort = (refl, inl refl)
 known RangePastEnd = (refl, inl refl)
+known NumberCut = (refl, inl refl)
+known NumberLong = (refl, inl refl)
+known NumberTooLarge = (refl, inl refl)
+known BytesBehind = (refl, inl refl)
+known PeaksCrossed = (refl, inl refl)
+known FloatFile = (refl, inl refl)
+known PairPastEnd = (refl, inl refl)
 
 number-some : (x : Refusal) → 0 < number x
 number-some x = ltb-true 0 (number x) (and-left _ _ (known x .0))
@@ -138,13 +146,10 @@ untold r e =
     (known r .1)
 
 decode-untold : (s : List ℕ) (room : ℕ) (x : Refusal) (at : Place) → (checkDecode s then checkRoom s room) ≡ No x at → misfitTold (told x) ≡ 0
-unfolding checkDecode checkRoom every
+unfolding checkRoom every
 decode-untold s room x at e =
-    let h = fieldsOf s in
     let other : ℕ → Bool = λ n. not (eqb n 36) in
-    untold x
-    (((open-passes other refl s and-says each-passes other (λ g. checkGroup h (formatOf s h) (groupBytes s h g)) atGroup (groupsOf (h .frames)) (λ g. group-passes other refl h (formatOf s h) _))
-    and-says says-refuse (Passes other) _ OutputTooShort refl) x at e)
+    untold x ((decode-passes other refl refl s and-says says-refuse (Passes other) _ OutputTooShort refl) x at e)
 
 -- ---- re-encoding says 36 of a place below 512
 module _ (b : List ℕ) (p : PcmSpec) (t : List ℕ) (room : ℕ) where

@@ -5,6 +5,7 @@ pub mod Certain
 pub mod Contents
 pub mod Walks
 pub mod FewFrames
+pub mod Peaks
 pub mod Places
 pub mod HostWords
 pub mod Impostors
@@ -35,3 +36,5 @@ pub mod Misfits
 pub mod WalkLaws
 pub mod ViewLaws
 pub mod FewFramesLaws
+-- summaries of peaks
+pub mod PeaksLaws

@@ -20,7 +20,7 @@ use Rattle.format.specs.declared.refusals.Place.{Place}
 use Rattle.format.specs.declared.refusals.Checked.{Checked}
 use Rattle.format.specs.declared.refusals.Checked.the-variants.{Fine, No}
 use Rattle.format.specs.declared.answers.Outcome.{Outcome}
-use Rattle.format.specs.declared.answers.Outcome.the-variants.{Opened, Read, Finished, Wrote, Refused}
+use Rattle.format.specs.declared.answers.Outcome.the-variants.{Opened, Read, Finished, Wrote, Refused, Matches, Differs}
 use Rattle.format.specs.declared.answers.Answer.{Answer}
 use Rattle.laws.proofs.Tests.{never}
 use Rattle.format.specs.Boundary.{sampleBytes, result, hostDecode, hostDecodeInto}
@@ -38,6 +38,8 @@ isRefused (Opened h) = false
 isRefused (Read n) = false
 isRefused Finished = false
 isRefused (Wrote n) = false
+isRefused Matches = false
+isRefused Differs = false
 
 -- ---- what succeeds was not refused, and is what success says
 module _ (c : Checked) (o x : Outcome) (success : isRefused x ≡ false) (e : answeredBy x ≡ answered c o) where

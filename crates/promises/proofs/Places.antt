@@ -19,15 +19,16 @@ use Rattle.format.specs.declared.places.Named.{Named}
 use Rattle.format.specs.declared.places.Named.the-variants.{NoGroup, TheGroup, TheBlock}
 use Rattle.format.specs.Answers.{refusedBy}
 use Rattle.format.specs.Opening.{formatOf, badEntry, checkOpen}
-use Rattle.format.specs.Decoding.{checkBlock, checkGroup, checkDecode, decodedCount, checkRoom}
+use Rattle.format.specs.Decoding.{isFloat, checkBlock, checkGroup, checkDecode, decodedCount, checkRoom}
 use Rattle.format.specs.Walking.{stepCount, hasGroup, checkStep, checkStepInto, checkWalk}
 use Rattle.format.specs.FewFrames.{rangeEnd, IsAsked, groupOf, touched, checkFrames, framesCount, checkFramesInto}
 use Rattle.format.specs.Encoding.{framesOf, checkSpec, checkEncoder, checkSamples, checkStereo, checkSize, checkEncode, checkEncodeInto}
 use Rattle.format.specs.Reencoding.{checkReencodeGroup}
 use Rattle.format.specs.Reencoding.{checkTemplate, checkReencoder, checkReencode, checkReencodeInto}
-use Rattle.format.specs.Promises.{Opens, Decodes, Steps, ReadsFrames, Encodes, Reencodes}
+use Rattle.format.specs.Peaks.{summaryOf, checkPeaks, checkPeaksInto, checkPeak, checkAllPeaks}
+use Rattle.format.specs.Promises.{Opens, Decodes, Steps, ReadsFrames, BuildsPeaks, ComparesPeaks, ReadsPeak, ReadsPeaks, Encodes, Reencodes}
 use Rattle.format.specs.declared.refusals.Refusal.{Refusal}
-use Rattle.format.specs.declared.refusals.Refusal.the-variants.{EntryBounds, ParityDiffers, OutputTooShort, RangePastEnd}
+use Rattle.format.specs.declared.refusals.Refusal.the-variants.{EntryBounds, ParityDiffers, OutputTooShort, RangePastEnd, FloatFile}
 use Rattle.format.specs.declared.refusals.Place.{Place}
 use Rattle.format.specs.declared.refusals.Checked.{Checked}
 use Rattle.format.specs.declared.refusals.Checked.the-variants.{Fine, No}
@@ -36,18 +37,21 @@ use Rattle.format.specs.declared.settings.PcmSpec.{PcmSpec}
 use Rattle.format.specs.declared.settings.StereoMode.{StereoMode}
 use Rattle.format.specs.declared.answers.Fields.{Fields}
 use Rattle.laws.proofs.Tests.{never, and-left, and-right}
-use Rattle.laws.proofs.Checks.{passed, _and-then_, then-assoc, first-fine, others-fine, in-order, order-cong, order-add}
+use Rattle.laws.proofs.Checks.{passed, _and-then_, then-assoc, first-fine, others-fine, said-before, in-order, order-cong, order-add}
 use Rattle.laws.proofs.Places.{fine-located, located-no}
 use Rattle.laws.proofs.FewFrames.{touchedSteps, touched-asked, touched-within}
 use Rattle.laws.proofs.Located.{Says, says-fine, says-refuse, says-located, says-order, _says-then_, _and-says_, refused-so, first-in}
+use Rattle.laws.proofs.Located.{Nowhere, nowhere-refuse, only-nowhere}
 use Rattle.laws.proofs.Located.{Only, only-says, block-says, spec-says, samples-say, template-says, reencode-block-says, open-says}
+use Rattle.laws.proofs.Summaries.{summary-says}
 use Rattle.promises.proofs.Certain.{refused-exactly}
+use Rattle.promises.proofs.WalkLaws.{room-passes}
 use Rattle.promises.proofs.Misfits.{groupSays, blockSays}
 
 -- ---- THE TABLE
 
 -- What a refusal names, of an entry that reads groups; `before` are its checks before them. It refuses before the
--- groups, or in one of them, or after them for want of room.
+-- groups, or in one of them, or after them for want of room; 66, after the groups too, names none as `inside` has it.
 pub data ByTable (before : Checked) (groups channels : ℕ) (x : Refusal) (at : Place) : Type 0 where
   Before : before ≡ No x at → IsNamed groups channels at (outside (number x)) → ByTable before groups channels x at
   InGroup : before ≡ Fine → (x ≡ OutputTooShort → ⊥) → IsNamed groups channels at (inside (number x))
@@ -87,6 +91,19 @@ pub record KeepsTable : Type 0 where
       → beforeFrames s first count ≡ Fine
       → (x ≡ OutputTooShort → ⊥)
       → (j : ℕ) × IsAsked first count j × (at .group ≡ groupOf j)
+  pub builds-peaks : (s lent after : List ℕ) (x : Refusal) (at : Place)
+      → BuildsPeaks s lent (refusedBy x at) after
+      → ByTable (checkOpen s) (groupsOf (fieldsOf s .frames)) (fieldsOf s .channels) x at
+  pub compares-peaks : (b s : List ℕ) (x : Refusal) (at : Place)
+      → ComparesPeaks b s (refusedBy x at)
+      → ByTable (checkOpen s) (groupsOf (fieldsOf s .frames)) (fieldsOf s .channels) x at
+  -- a summary names nothing
+  pub reads-peak : (s : List ℕ) (g c : ℕ) (lent after : List ℤ) (x : Refusal) (at : Place)
+      → ReadsPeak s g c lent (refusedBy x at) after
+      → at ≡ nowhere
+  pub reads-peaks : (s : List ℕ) (lent after : List ℤ) (x : Refusal) (at : Place)
+      → ReadsPeaks s lent (refusedBy x at) after
+      → at ≡ nowhere
   pub encodes : (p : PcmSpec) (mode : StereoMode) (s : List ℤ) (lent after : List ℕ) (x : Refusal) (at : Place)
       → Encodes p mode s lent (refusedBy x at) after
       → IsNamed (groupsOf (framesOf p s)) (p .channels) at (outside (number x))
@@ -354,6 +371,29 @@ module _ (s : List ℕ) where
       groups-first (fieldsOf s .channels) (blockRead s) (size s) (groupRead s) read-group x at
       (only-inner (checkOpen s) (inOrder (λ g. inGroup g (groupRead s g)) (size s)) (ltb room (decodedCount s .0)) x at e opens other)
 
+  -- building a summary, and checking one: after the groups 66
+  build-table : (room : ℕ) → Says Tabled (checkPeaksInto s room)
+  unfolding checkPeaksInto checkPeaks checkDecode inside isIn
+  build-table room x at e =
+      let inner = inOrder (λ g. inGroup g (groupRead s g)) (size s) in
+      let float = refuse (isFloat (formatOf s (fieldsOf s))) FloatFile in
+      let few = ltb room (length (summaryOf s)) in
+      by-table (checkOpen s) (inner then float) few (size s) (fieldsOf s .channels) open-outer
+      (λ fine. groups-name (fieldsOf s .channels) (blockRead s) (size s) (groupRead s) read-group and-says says-refuse (Inner (size s) (fieldsOf s .channels)) _ FloatFile (not-room FloatFile refl, refl))
+      x at (sym (ap (λ (k : Checked). k then refuse few OutputTooShort) (then-assoc (checkOpen s) inner float)) ∙ e)
+
+  check-table : Says Tabled (checkPeaks s)
+  unfolding checkPeaksInto
+  check-table x at e = build-table (length (summaryOf s)) x at (room-passes (checkPeaks s) (length (summaryOf s)) (length (summaryOf s)) OutputTooShort (omega arith) ∙ e)
+
+  build-first : (room : ℕ) (x : Refusal) (at : Place) → checkPeaksInto s room ≡ No x at → checkOpen s ≡ Fine → (x ≡ OutputTooShort → ⊥) → (x ≡ FloatFile → ⊥) → First (groupRead s) (blockRead s) x at
+  unfolding checkPeaksInto checkPeaks _then_
+  build-first room x at e opens roomy other =
+      let float = refuse (isFloat (formatOf s (fieldsOf s))) FloatFile in
+      let a = said-before x at (checkDecode s then float) _ (λ l q. roomy (refused-so _ OutputTooShort x l q .1)) e in
+      let b = said-before x at (checkDecode s) float (λ l q. other (refused-so _ FloatFile x l q .1)) a in
+      decode-first 0 x at (ap (λ (k : Checked). k then checkRoom s 0) b) opens roomy
+
   -- a step: of the group alone, where there is one
   module _ (g room : ℕ) where
     abbrev few : Bool
@@ -441,6 +481,15 @@ module _ (s : List ℕ) where
           by true g = says-fine (OfGroup (fieldsOf s .channels) (blockRead s) g)
           by false g = read-group g
 
+-- a summary's bytes
+pair-nowhere : (s : List ℕ) (g c room : ℕ) → Nowhere (checkPeak s g c room)
+unfolding checkPeak
+pair-nowhere s g c room = only-nowhere _ _ (summary-says s) and-says nowhere-refuse _ _ and-says nowhere-refuse _ _ and-says nowhere-refuse _ _
+
+pairs-nowhere : (s : List ℕ) (room : ℕ) → Nowhere (checkAllPeaks s room)
+unfolding checkAllPeaks
+pairs-nowhere s room = only-nowhere _ _ (summary-says s) and-says nowhere-refuse _ _
+
 -- re-encoding
 module _ (p : PcmSpec) (s : List ℤ) (t : List ℕ) where
   abbrev groups : ℕ
@@ -493,6 +542,10 @@ keeps-table =
       reads-frames = λ s first count lent after x at d. frames-table s first count (length lent) x at (refused-exactly .reads-frames s first count lent after (refusedBy x at) x at d .0 refl);
       reads-frames-group = λ s first count lent after x at d.
           frames-group s first count (length lent) x at (refused-exactly .reads-frames s first count lent after (refusedBy x at) x at d .0 refl);
+      builds-peaks = λ s lent after x at d. build-table s (length lent) x at (refused-exactly .builds-peaks s lent after (refusedBy x at) x at d .0 refl);
+      compares-peaks = λ b s x at d. check-table s x at (refused-exactly .compares-peaks b s (refusedBy x at) x at d .0 refl);
+      reads-peak = λ s g c lent after x at d. pair-nowhere s g c (length lent) x at (refused-exactly .reads-peak s g c lent after (refusedBy x at) x at d .0 refl);
+      reads-peaks = λ s lent after x at d. pairs-nowhere s (length lent) x at (refused-exactly .reads-peaks s lent after (refusedBy x at) x at d .0 refl);
       encodes = λ p mode s lent after x at e. encode-names p mode s (length lent) x at (refused-exactly .encodes p mode s lent after (refusedBy x at) x at e .0 refl);
       reencodes = λ p s t lent after x at e. reencode-table p s t (length lent) x at (refused-exactly .reencodes p s t lent after (refusedBy x at) x at e .0 refl);
     }
@@ -520,6 +573,15 @@ pub first-reads-frames : (s : List ℕ) (first count : Frames) (lent after : Lis
     → First (touchedRead s first) (blockRead s) x at
 first-reads-frames s first count lent after x at d =
     frames-first s first count (length lent) x at (refused-exactly .reads-frames s first count lent after (refusedBy x at) x at d .0 refl)
+
+-- where building a summary opens the file and refuses, not for want of room nor a float file, it names the first
+pub first-builds-peaks : (s lent after : List ℕ) (x : Refusal) (at : Place)
+    → BuildsPeaks s lent (refusedBy x at) after
+    → checkOpen s ≡ Fine
+    → (x ≡ OutputTooShort → ⊥)
+    → (x ≡ FloatFile → ⊥)
+    → First (groupRead s) (blockRead s) x at
+first-builds-peaks s lent after x at d = build-first s (length lent) x at (refused-exactly .builds-peaks s lent after (refusedBy x at) x at d .0 refl)
 
 -- where re-encoding comes to the template's groups and refuses, not for want of room, it names the first
 pub first-reencodes : (p : PcmSpec) (s : List ℤ) (t lent after : List ℕ) (x : Refusal) (at : Place)

@@ -38,35 +38,41 @@ count-is s h reads n counts = counts ∙ rw reads refl
 pub groups-there : (h : Fields) (groups : ℕ) → groups ≡ groupsOf (h .frames) → 0 + groups ≤ groupsOf (h .frames)
 groups-there h groups all = omega arith
 
--- ---- the checks: a is what opening says
-module _ (s : List ℕ) (room : ℕ) (a : Checked) (says : a ≡ checkOpen s) where
-  pub open-refused : (r : Refusal) (at : Place) → a ≡ No r at → No r at ≡ (checkDecode s then checkRoom s room)
+-- ---- the file's checks: a is what opening says
+module _ (s : List ℕ) (a : Checked) (says : a ≡ checkOpen s) where
+  pub open-refused : (r : Refusal) (at : Place) → a ≡ No r at → No r at ≡ checkDecode s
   unfolding checkDecode _then_
   open-refused r at e = rw (← says, e)
 
   -- k what the groups say
-  module _ (fine : a ≡ Fine) (h : Fields) (reads : h ≡ fieldsOf s) (groups : ℕ) (all : groups ≡ groupsOf (h .frames)) (f : SampleFormat) (format : f ≡ formatOf s h)
-      (k : Checked) (checked : k ≡ inOrder (λ g. inGroup (0 + g) (checkGroup h f (groupBytes s h (0 + g)))) groups) where
-    all-say : k ≡ checkDecode s
-    unfolding checkDecode _then_
-    all-say =
-        let each = order-cong (λ g. inGroup (0 + g) (checkGroup h f (groupBytes s h (0 + g)))) (λ g. inGroup g (checkGroup h f (groupBytes s h g))) groups (λ g l. rw zero-add) in
-        rw (← says, fine, ← reads, ← format, ← all) (checked ∙ each)
+  pub groups-say : a ≡ Fine → (h : Fields) → h ≡ fieldsOf s → (groups : ℕ) → groups ≡ groupsOf (h .frames) → (f : SampleFormat) → f ≡ formatOf s h
+      → (k : Checked) → k ≡ inOrder (λ g. inGroup (0 + g) (checkGroup h f (groupBytes s h (0 + g)))) groups → k ≡ checkDecode s
+  unfolding checkDecode _then_
+  groups-say fine h reads groups all f format k checked =
+      let each = order-cong (λ g. inGroup (0 + g) (checkGroup h f (groupBytes s h (0 + g)))) (λ g. inGroup g (checkGroup h f (groupBytes s h g))) groups (λ g l. rw zero-add) in
+      rw (← says, fine, ← reads, ← format, ← all) (checked ∙ each)
 
-    pub groups-refused : (r : Refusal) (at : Place) → k ≡ No r at → No r at ≡ (checkDecode s then checkRoom s room)
-    groups-refused r at e = stops-at k (checkDecode s) all-say _ r at e
+-- ---- and the room: k is what they say
+module _ (s : List ℕ) (room : ℕ) (k : Checked) (says : k ≡ checkDecode s) where
+  pub file-refused : (r : Refusal) (at : Place) → k ≡ No r at → No r at ≡ (checkDecode s then checkRoom s room)
+  file-refused r at e = stops-at k (checkDecode s) says _ r at e
 
-    module _ (passes : k ≡ Fine) (n : Samples) (counts : n ≡ samplesIn (h .frames) (h .channels)) where
+  module _ (passes : k ≡ Fine) where
+    pub file-fields : 32 ≤ length s
+    unfolding checkDecode
+    file-fields = omega (arith, opened-long s (first-fine _ _ (sym says ∙ passes)))
+
+    module _ (h : Fields) (reads : h ≡ fieldsOf s) (n : Samples) (counts : n ≡ samplesIn (h .frames) (h .channels)) where
       many : n .0 ≡ decodedCount s .0
       many = ap (λ (x : Samples). x .0) (count-is s h reads n counts)
 
       pub decode-short : room < n .0 → No OutputTooShort nowhere ≡ (checkDecode s then checkRoom s room)
       unfolding checkRoom
-      decode-short l = sym (room-short (checkDecode s) (sym all-say ∙ passes) room (decodedCount s .0) OutputTooShort (omega (arith, many)))
+      decode-short l = sym (room-short (checkDecode s) (sym says ∙ passes) room (decodedCount s .0) OutputTooShort (omega (arith, many)))
 
       pub decode-passes : n .0 ≤ room → Fine ≡ (checkDecode s then checkRoom s room)
       unfolding checkRoom
-      decode-passes l = sym (room-enough (checkDecode s) (sym all-say ∙ passes) room (decodedCount s .0) OutputTooShort (omega (arith, many)))
+      decode-passes l = sym (room-enough (checkDecode s) (sym says ∙ passes) room (decodedCount s .0) OutputTooShort (omega (arith, many)))
 
 -- ---- and the answer: k is what they say, c the room
 module _ (s : List ℕ) (c : ℕ) (k : Checked) (says : k ≡ (checkDecode s then checkRoom s c)) where

@@ -2,6 +2,7 @@
 mod checking;
 
 pub use checking::check_decode;
+pub use checking::check_file;
 use format::Answer;
 use format::Checked;
 use format::Frames;

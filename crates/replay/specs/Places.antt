@@ -29,7 +29,7 @@ startOf = record {
 abbrev pub specOf : Place → PcmSpec
 specOf place = record { channels = place .channels; «bits_per_sample» = place .depth; «sample_rate» = place .rate }
 
--- the kinds of three questions in the list: decoding, encoding, re-encoding
+-- the kinds of four questions in the list: decoding, encoding, re-encoding, building a summary of peaks
 abbrev pub decode : ℕ
 decode = 17
 
@@ -39,14 +39,17 @@ encode = 19
 abbrev pub reencode : ℕ
 reencode = 20
 
--- after a question of that kind: decoding read so many bytes, and encoding or re-encoding wrote them; nothing is
--- false on purpose any more
+abbrev pub peaks : ℕ
+peaks = 22
+
+-- after a question of that kind: decoding read so many bytes, or a summary of so many was built where they are read,
+-- and encoding or re-encoding wrote them; nothing is false on purpose any more
 unfoldable pub placeAfter : ℕ → Place → Verdict → Place
 placeAfter kind place verdict = record {
   items = place .items;
   file = place .file;
   samples = place .samples;
-  read = cond (eqb kind decode) (verdict .length) (place .read);
+  read = cond (eqb kind decode) (verdict .length) (cond (eqb kind peaks) (verdict .length) (place .read));
   written = cond (leb encode kind && leb kind reencode) (verdict .length) (place .written);
   channels = place .channels;
   depth = place .depth;

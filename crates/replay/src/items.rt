@@ -12,8 +12,9 @@ ghost use Rattle.io.specs.Counts.{Counts};
 ghost use Rattle.replay.specs.Places.{startOf};
 ghost use Rattle.replay.specs.Spaces.{kept};
 
-// How many items were read. How many bytes of their spaces the file and the samples are, and how many were read and
-// written last; the settings; whether the next answer is false on purpose, and where its room is changed on purpose.
+// How many items were read. How many bytes of their spaces the file and the samples are, and how many were read or
+// built, and written, last; the settings; whether the next answer is false on purpose, and where its room is changed on
+// purpose.
 pub struct Place {
     pub items: u64,
     pub file: usize,

@@ -24,7 +24,8 @@ fn words_of(room: &[i32], n: usize) -> usize
     if n < room.len() { n } else { room.len() }
 }
 
-// `open`, `decode`, `step`, `read_frames`, `encode` and `reencode` ask one question each.
+// `open`, `decode`, `step`, `read_frames`, `encode` and `reencode` ask one question each; `build_peaks`, `read_peak`,
+// `read_peaks` and `check_peaks` those about peaks, with the samples' bytes as summary.
 fn open(list: i32, place: Place, file: &[u8]) -> Verdict {
     let n = part(file, place.file);
     replay_reading::open(list, &file[..n])
@@ -117,6 +118,63 @@ fn reencode(list: i32, place: Place, samples: &[u8], file: &[u8], room: &mut [u8
     )
 }
 
+fn build_peaks(list: i32, place: Place, file: &[u8], room: &mut [u8]) -> Verdict {
+    let asked = read_u16(list) as usize;
+    let n = part(file, place.file);
+    let m = part(room, asked);
+    replay_peaks::build(list, &file[..n], place.spoiled, &mut room[..m])
+}
+
+fn read_peak(
+    list: i32,
+    place: Place,
+    summary: &[u8],
+    words: &mut [i32],
+    bytes: &mut [u8],
+) -> Verdict {
+    let group = read_u32(list);
+    let channel = read_u32(list);
+    let asked = read_u16(list) as usize;
+    let n = part(summary, place.samples);
+    let m = words_of(words, asked);
+    let k = part(bytes, 4 * asked);
+    replay_reading::read_peak(
+        list,
+        &summary[..n],
+        group,
+        channel,
+        place.spoiled,
+        &mut words[..m],
+        &mut bytes[..k],
+    )
+}
+
+fn read_peaks(
+    list: i32,
+    place: Place,
+    summary: &[u8],
+    words: &mut [i32],
+    bytes: &mut [u8],
+) -> Verdict {
+    let asked = read_u16(list) as usize;
+    let n = part(summary, place.samples);
+    let m = words_of(words, asked);
+    let k = part(bytes, 4 * asked);
+    replay_reading::read_peaks(
+        list,
+        &summary[..n],
+        place.spoiled,
+        &mut words[..m],
+        &mut bytes[..k],
+    )
+}
+
+fn check_peaks(list: i32, place: Place, summary: &[u8], file: &[u8]) -> Verdict {
+    let n = part(summary, place.samples);
+    let k = part(file, place.file);
+    replay_peaks::check(list, &summary[..n], &file[..k])
+}
+
 // Whether the question is answered as recorded.
 fn ask(
     list: i32,
@@ -134,11 +192,15 @@ fn ask(
         kinds::STEP => step(list, place, file, words),
         kinds::ENCODE => encode(list, place, samples, written),
         kinds::REENCODE => reencode(list, place, samples, file, written),
-        _ => read_frames(list, place, file, words, read),
+        kinds::READ_FRAMES => read_frames(list, place, file, words, read),
+        kinds::PEAKS => build_peaks(list, place, file, read),
+        kinds::PEAK => read_peak(list, place, samples, words, read),
+        kinds::PEAKS_ALL => read_peaks(list, place, samples, words, read),
+        _ => check_peaks(list, place, samples, file),
     }
 }
 
-// Nothing is false on purpose any more; what was read or written can be kept.
+// Nothing is false on purpose any more; what was read, built or written can be kept.
 fn place_after(kind: u32, place: Place, verdict: Verdict) -> Place
     ensures { λ r. ⌜ r ≡ placeAfter kind place verdict ⌝ }
 {
@@ -151,6 +213,9 @@ fn place_after(kind: u32, place: Place, verdict: Verdict) -> Place
         }
         kinds::ENCODE..=kinds::REENCODE => {
             after.written = verdict.length as usize;
+        }
+        kinds::PEAKS => {
+            after.read = verdict.length as usize;
         }
         _ => {}
     }
@@ -172,7 +237,7 @@ pub fn answer(
     if kind < kinds::OPEN {
         return place;
     }
-    if kinds::READ_FRAMES < kind {
+    if kinds::PEAKS_CHECK < kind {
         return place;
     }
     let verdict = ask(list, kind, place, file, samples, words, read, written);

@@ -5,22 +5,22 @@ use mathlib.Core.Bool.{Bool, cond}
 use lib.ListN.{getD, set}
 use Rattle.replay_list.specs.declared.answers.Verdict.{Verdict}
 
--- the place of an answer: 256 numbers for each question, of the kinds 16 (OPEN) to 21 (READ_FRAMES)
+-- the place of an answer: 256 numbers for each question, of the kinds 16 (OPEN) to 25 (PEAKS_CHECK)
 abbrev pub placeOf : ℕ → ℕ → ℕ
 placeOf kind number = kind % 16 * 256 + number % 256
 
 -- the places of the sums: answers as recorded, others, false ones on purpose, and those that were found
 abbrev pub asRecorded : ℕ
-asRecorded = 1536
+asRecorded = 2560
 
 abbrev pub others : ℕ
-others = 1537
+others = 2561
 
 abbrev pub falseOnes : ℕ
-falseOnes = 1538
+falseOnes = 2562
 
 abbrev pub found : ℕ
-found = 1539
+found = 2563
 
 -- the count at that place is one more, modulo 2 ^ 64; where there is no such place, all is as it was
 unfoldable pub counted : List ℕ → ℕ → List ℕ

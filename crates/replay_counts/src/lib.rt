@@ -11,20 +11,20 @@ ghost use mathlib.Core.Path.{_≡_};
 ghost use lib.ListN.{getD};
 ghost use Rattle.replay_counts.specs.Counts.{placeOf, others, counted, talliedFalse, tallied};
 
-// Room for the counts: of 6 questions 256 numbers each, and behind these the four sums; the rest is not used.
-pub const COUNTS: usize = 1792;
+// Room for the counts: of 10 questions 256 numbers each, and behind these the four sums; the rest is not used.
+pub const COUNTS: usize = 2816;
 
 // Refusals have the numbers from this one to the one before `DONE`.
 const FIRST_REFUSAL: u32 = ACCEPTED + 1;
 
 // The places of the sums.
-const AS_RECORDED: usize = 1536;
+const AS_RECORDED: usize = 2560;
 
-const OTHERS: usize = 1537;
+const OTHERS: usize = 2561;
 
-const FALSE: usize = 1538;
+const FALSE: usize = 2562;
 
-const FOUND: usize = 1539;
+const FOUND: usize = 2563;
 
 // One more at that place, where there is one.
 fn count(counts: &mut [u64], at: usize)
@@ -133,6 +133,10 @@ pub fn print_counts(counts: &[u64; COUNTS]) {
     print_question(counts, kinds::ENCODE, b"encoding");
     print_question(counts, kinds::REENCODE, b"re-encoding");
     print_question(counts, kinds::READ_FRAMES, b"reading frames");
+    print_question(counts, kinds::PEAKS, b"building peaks");
+    print_question(counts, kinds::PEAK, b"reading a peak");
+    print_question(counts, kinds::PEAKS_ALL, b"reading peaks");
+    print_question(counts, kinds::PEAKS_CHECK, b"checking peaks");
     print_number(count_of(counts, AS_RECORDED));
     print(b" answers as recorded, ");
     print_number(count_of(counts, OTHERS));

@@ -18,11 +18,11 @@ use Rattle.format.specs.declared.refusals.Told.{Told}
 use Rattle.format.specs.declared.refusals.Told.the-variants.{Nothing, Bits, Misfit}
 use Rattle.format.specs.declared.answers.Header.{Header}
 use Rattle.format.specs.declared.answers.Outcome.{Outcome}
-use Rattle.format.specs.declared.answers.Outcome.the-variants.{Opened, Read, Finished, Wrote, Refused}
+use Rattle.format.specs.declared.answers.Outcome.the-variants.{Opened, Read, Finished, Wrote, Refused, Matches, Differs}
 use Rattle.replay_list.specs.declared.answers.Recorded.{Recorded}
 use Rattle.replay_list.specs.declared.answers.Said.{Said}
 use Rattle.replay_list.specs.Room.{isKept, sumOf}
-use Rattle.replay_list.specs.Said.{saidLength, saidNumber, saidAt, toldBy, saidRefused, saidSamples, saidOutcome, refusalOf, saidByHost, isSaid, isRecorded}
+use Rattle.replay_list.specs.Said.{saidLength, saidNumber, saidAt, toldBy, saidRefused, saidSamples, saidOutcome, refusalOf, saidByHost, isSaid, wordsIn, isRecorded}
 
 -- ---- a bits word: the lowest 16 of its 32 bits
 
@@ -61,6 +61,12 @@ module _ (o : Outcome) (x : Said) where
   pub opened-says : (h : Header) → o ≡ Opened h → x ≡ saidLength 18446744073709551615 → x ≡ saidOutcome o
   opened-says h e p = p ∙ sym (ap saidOutcome e)
 
+  pub matches-says : o ≡ Matches → x ≡ saidLength 1 → x ≡ saidOutcome o
+  matches-says e p = p ∙ sym (ap saidOutcome e)
+
+  pub differs-says : o ≡ Differs → x ≡ saidLength 0 → x ≡ saidOutcome o
+  differs-says e p = p ∙ sym (ap saidOutcome e)
+
 pub finished-says : (o : Outcome) → o ≡ Finished → saidNumber 255 0 ≡ saidOutcome o
 finished-says o e = sym (ap saidOutcome e)
 
@@ -89,16 +95,16 @@ module _ (said : Said) (want : Recorded) (room : List ℤ) where
   unfolding isRecorded
   not-said e f = rw (sym e ∙ f)
 
-  module _ {same : Bool} (e : same ≡ isSaid said want) (f : same ≡ true) where
-    pub no-room : {n : ℕ} → n ≡ length room → n < want .length / 4 → false ≡ isRecorded said want room
+  module _ {same : Bool} (e : same ≡ isSaid said want) (f : same ≡ true) {words : ℕ} (w : words ≡ wordsIn (want .length)) where
+    pub no-room : {n : ℕ} → n ≡ length room → n < words → false ≡ isRecorded said want room
     unfolding isRecorded
-    no-room p h = rw (sym e ∙ f, lt-leb (want .length / 4) (length room) (omega arith))
+    no-room p h = rw (sym e ∙ f, ← w, lt-leb words (length room) (omega arith))
 
-    module _ {n : ℕ} (p : n ≡ length room) (h : want .length / 4 ≤ n) {sum : ℕ} (s : sum ≡ sumOf (take (want .length / 4) room)) where
+    module _ {n : ℕ} (p : n ≡ length room) (h : words ≤ n) {sum : ℕ} (s : sum ≡ sumOf (take words room)) where
       pub other-sum : (sum ≡ want .sum → ⊥) → false ≡ isRecorded said want room
       unfolding isRecorded
-      other-sum ne = rw (sym e ∙ f, le-leb (want .length / 4) (length room) (omega arith), ← s, ne-eqb sum (want .sum) ne)
+      other-sum ne = rw (sym e ∙ f, ← w, le-leb words (length room) (omega arith), ← s, ne-eqb sum (want .sum) ne)
 
-      pub kept-or-not : {kept : Bool} → sum ≡ want .sum → kept ≡ isKept (want .length / 4) room → kept ≡ isRecorded said want room
+      pub kept-or-not : {kept : Bool} → sum ≡ want .sum → kept ≡ isKept words room → kept ≡ isRecorded said want room
       unfolding isRecorded
-      kept-or-not t k = k ∙ rw (sym e ∙ f, le-leb (want .length / 4) (length room) (omega arith), ← s, eq-eqb sum (want .sum) t)
+      kept-or-not t k = k ∙ rw (sym e ∙ f, ← w, le-leb words (length room) (omega arith), ← s, eq-eqb sum (want .sum) t)

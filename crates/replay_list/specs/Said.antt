@@ -12,7 +12,7 @@ use Rattle.format.specs.declared.refusals.Told.{Told}
 use Rattle.format.specs.declared.refusals.Told.the-variants.{Nothing, Bits, Misfit}
 use Rattle.format.specs.declared.answers.Answer.{Answer}
 use Rattle.format.specs.declared.answers.Outcome.{Outcome}
-use Rattle.format.specs.declared.answers.Outcome.the-variants.{Opened, Read, Finished, Wrote, Refused}
+use Rattle.format.specs.declared.answers.Outcome.the-variants.{Opened, Read, Finished, Wrote, Refused, Matches, Differs}
 use Rattle.replay_list.specs.declared.answers.Recorded.{Recorded}
 use Rattle.replay_list.specs.declared.answers.Said.{Said}
 use Rattle.replay_list.specs.declared.answers.Verdict.{Verdict}
@@ -55,6 +55,8 @@ saidOutcome (Read samples) = saidSamples (samples .0)
 saidOutcome Finished = saidNumber 255 0
 saidOutcome (Wrote bytes) = saidLength bytes
 saidOutcome (Refused r) = saidRefused r
+saidOutcome Matches = saidLength 1  -- yes
+saidOutcome Differs = saidLength 0
 
 -- that, and the group and the channel that the answer names
 abbrev pub saidBy : Answer → Said
@@ -96,12 +98,16 @@ isSaid said want =
     && eqb (said .channel) (want .channel)
     && eqb (said .length) (want .length)
 
+-- how many words of 4 bytes hold so many bytes
+unfoldable pub wordsIn : ℕ → ℕ
+wordsIn bytes = (bytes + 3) / 4
+
 -- that was recorded: what was said, the room has so many samples, of 4 bytes, their sum is the recorded one, and
--- behind them it holds what it was filled with. Of a file whose length is no multiple of 4 the last 1 to 3 bytes are
--- not summed
+-- behind them it holds what it was filled with. Of a length that is no multiple of 4 the last 1 to 3 bytes are summed
+-- together with what the room was filled with behind them
 unfoldable pub isRecorded : Said → Recorded → List ℤ → Bool
 isRecorded said want room =
-    let n = want .length / 4 in
+    let n = wordsIn (want .length) in
     isSaid said want
     && leb n (length room)
     && eqb (sumOf (take n room)) (want .sum)

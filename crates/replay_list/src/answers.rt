@@ -15,7 +15,7 @@ ghost use Rattle.format.specs.Numbers.{codeOf};
 ghost use Rattle.lent_samples.specs.Lent.{lentOf};
 ghost use Rattle.replay_list.specs.Said.{saidLength, toldBy, saidRefused, saidSamples, saidOutcome, saidBy};
 ghost use Rattle.replay_list.specs.Said.{refusalOf, saidByHost, recordedRefusal, misfitOf, wordOf};
-ghost use Rattle.replay_list.specs.Said.{isSaid, isRecorded, verdictOf};
+ghost use Rattle.replay_list.specs.Said.{isSaid, wordsIn, isRecorded, verdictOf};
 
 // The number of a call that was accepted.
 pub const ACCEPTED: u32 = 0;
@@ -85,7 +85,7 @@ pub fn read_refusal(list: i32, number: u32) -> Recorded {
     refused(number, told, group, channel)
 }
 
-// What the list says of a call: it counts samples there, 4 bytes each, or the bytes of a file.
+// What the list says of a call: it counts samples there, 4 bytes each, or the bytes of a file or a summary.
 pub fn read_recorded(list: i32, counts_samples: bool) -> Recorded {
     let number = read_u8(list);
     if number != ACCEPTED {
@@ -202,6 +202,8 @@ fn of_outcome(outcome: Outcome) -> Said
             length: 0,
         },
         Outcome::Opened(_) => accepted(u64::MAX),
+        Outcome::Matches => accepted(1),
+        Outcome::Differs => accepted(0),
     }
 }
 
@@ -255,8 +257,15 @@ pub fn is_said(said: Said, want: Recorded) -> bool
     same & (said.length == want.length)
 }
 
+// How many words of 4 bytes hold so many bytes.
+fn words_in(length: u64) -> usize
+    ensures { λ r. ⌜ r ≡ wordsIn length ⌝ }
+{
+    (length / 4 + (length % 4 + 3) / 4) as usize
+}
+
 // Whether that was recorded: what was said, what the room holds of it by its sum, and behind it what the room was
-// filled with.
+// filled with. In a last word that is not wholly written, what it was filled with is summed with it.
 pub fn is_recorded(
     said: Said,
     want: Recorded,
@@ -269,7 +278,7 @@ pub fn is_recorded(
     if is_said(said, want) {} else {
         return false;
     }
-    let n = (want.length / 4) as usize;
+    let n = words_in(want.length);
     if room_length(which, words, bytes) < n {
         return false;
     }

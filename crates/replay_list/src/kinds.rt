@@ -16,7 +16,8 @@ pub const DRAW_FILE: u32 = 5;
 
 pub const DRAW_SAMPLES: u32 = 6;
 
-// What the question before wrote is the file from now on; what it read are the samples.
+// What the question before wrote is the file from now on; what it read are the samples, and so is a summary that it
+// built.
 pub const KEEP_WRITTEN: u32 = 7;
 
 pub const KEEP_READ: u32 = 8;
@@ -24,7 +25,7 @@ pub const KEEP_READ: u32 = 8;
 // Channels, depth and rate for encoding and re-encoding.
 pub const SETTINGS: u32 = 9;
 
-// The questions: `OPEN` is the first, `READ_FRAMES` the last.
+// The questions: `OPEN` is the first, `PEAKS_CHECK` the last.
 pub const OPEN: u32 = 16;
 
 pub const DECODE: u32 = 17;
@@ -36,6 +37,16 @@ pub const ENCODE: u32 = 19;
 pub const REENCODE: u32 = 20;
 
 pub const READ_FRAMES: u32 = 21;
+
+// Of peaks: the file's summary is built; of a summary, which the samples' bytes are, a pair or all pairs are read; or
+// it is checked against the file.
+pub const PEAKS: u32 = 22;
+
+pub const PEAK: u32 = 23;
+
+pub const PEAKS_ALL: u32 = 24;
+
+pub const PEAKS_CHECK: u32 = 25;
 
 // Of the next question, the recorded answer is false on purpose, or a sample of its room is changed on purpose.
 pub const FALSE_ANSWER: u32 = 32;

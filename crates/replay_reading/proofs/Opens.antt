@@ -31,14 +31,16 @@ module _ (want : Opened) where
   opens-as o h same e f = f ∙ ap (λ (k : Outcome). isOpened k want) (sym e)
 
   -- an outcome of another kind opens nothing
-  pub opens-not : (o : Outcome) → OneOf (1 ∷ 2 ∷ 3 ∷ 4 ∷ []) (tagOf the-type o) → false ≡ isOpened o want
+  pub opens-not : (o : Outcome) → OneOf (1 ∷ 2 ∷ 3 ∷ 4 ∷ 5 ∷ 6 ∷ []) (tagOf the-type o) → false ≡ isOpened o want
   opens-not (outcome.Opened h) k =
-      let other : ⊥ = ⊎-elim (λ (e : 0 ≡ 1). omega arith) (⊎-elim (λ (e : 0 ≡ 2). omega arith) (⊎-elim (λ (e : 0 ≡ 3). omega arith) (λ (e : 0 ≡ 4). omega arith))) k in
+      let other : ⊥ = ⊎-elim (λ (e : 0 ≡ 1). omega arith) (⊎-elim (λ (e : 0 ≡ 2). omega arith) (⊎-elim (λ (e : 0 ≡ 3). omega arith) (⊎-elim (λ (e : 0 ≡ 4). omega arith) (⊎-elim (λ (e : 0 ≡ 5). omega arith) (λ (e : 0 ≡ 6). omega arith))))) k in
       absurd other
   opens-not (outcome.Read n) k = refl
   opens-not outcome.Finished k = refl
   opens-not (outcome.Wrote n) k = refl
   opens-not (outcome.Refused r) k = refl
+  opens-not outcome.Matches k = refl
+  opens-not outcome.Differs k = refl
 
 -- four times m is what has m as its whole quotient
 module _ (n m : ℕ) (whole : n % 4 ≡ 0) where

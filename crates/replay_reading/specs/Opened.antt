@@ -44,6 +44,8 @@ isOpened (outcome.Read n) want = false
 isOpened outcome.Finished want = false
 isOpened (outcome.Wrote n) want = false
 isOpened (outcome.Refused r) want = false
+isOpened outcome.Matches want = false
+isOpened outcome.Differs want = false
 
 -- the host boundary's number is what decoding would write: 4 bytes for each sample
 unfoldable pub isLength : ℕ → Opened → Bool

@@ -1,5 +1,5 @@
-// Opening, decoding, reading a few frames and a step of a walk, each asked of the proved entry and, where it has one,
-// of the host boundary: whether all answer as recorded.
+// Opening, decoding, reading a few frames or the pairs of a summary, and a step of a walk, each asked of the proved
+// entry and, where it has one, of the host boundary: whether all answer as recorded.
 use format::Answer;
 use format::Frames;
 use format::Header;
@@ -167,10 +167,13 @@ pub fn open(list: i32, file: &[u8]) -> Verdict {
     judge_open(file, want)
 }
 
-// How a file is read: decoded whole, or a range of its frames, by the first and how many.
+// How bytes are read: a file decoded whole, or a range of its frames, by the first and how many; a summary's pair, by
+// group and channel, or all its pairs.
 enum Way {
     Decode,
     Range(Frames, Frames),
+    Pair(u32, u32),
+    Pairs,
 }
 
 // The entry reads into the room: what it says.
@@ -181,6 +184,8 @@ fn read_words(way: Way, file: &[u8], room: &mut [i32]) -> Said
     match way {
         Way::Decode => of_answer(reader::decode_samples(file, room)),
         Way::Range(first, count) => of_answer(few_frames::read_frames(file, first, count, room)),
+        Way::Pair(group, channel) => of_answer(summary::read_peak(file, group, channel, room)),
+        Way::Pairs => of_answer(summary::read_peaks(file, room)),
     }
 }
 
@@ -206,11 +211,13 @@ fn read_bytes(way: Way, file: &[u8], room: &mut [u8], want: Recorded) -> Said
             ncw::ncw_read_frames(file, first.0, count.0, room),
             want,
         ),
+        Way::Pair(group, channel) => of_result(ncw::ncw_peak(file, group, channel, room), want),
+        Way::Pairs => of_result(ncw::ncw_peaks_all(file, room), want),
     }
 }
 
-// Whether the host boundary tells what it refuses in so many bytes of room, and where, as recorded. Of frames it tells
-// no more than its number: that counts as recorded.
+// Whether the host boundary tells what it refuses in so many bytes of room, and where, as recorded. Of frames and of
+// pairs it tells no more than its number: that counts as recorded.
 fn host_tells(way: Way, file: &[u8], room: u64, want: Recorded) -> bool
     ensures { λ r. ⌜ r ≡ hostTells way (now (file .entry)) room want ⌝ }
 {
@@ -221,6 +228,8 @@ fn host_tells(way: Way, file: &[u8], room: u64, want: Recorded) -> bool
             told == recorded
         }
         Way::Range(_, _) => true,
+        Way::Pair(_, _) => true,
+        Way::Pairs => true,
     }
 }
 
@@ -279,6 +288,39 @@ pub fn read_frames(
 ) -> Verdict {
     let want = read_recorded(list, true);
     judge_read(Way::Range(first, count), file, spoiled, words, bytes, want)
+}
+
+// The same of the pair of a group and a channel in a summary: its smallest and its largest sample.
+pub fn read_peak(
+    list: i32,
+    summary: &[u8],
+    group: u32,
+    channel: u32,
+    spoiled: usize,
+    words: &mut [i32],
+    bytes: &mut [u8],
+) -> Verdict {
+    let want = read_recorded(list, true);
+    judge_read(
+        Way::Pair(group, channel),
+        summary,
+        spoiled,
+        words,
+        bytes,
+        want,
+    )
+}
+
+// The same of all its pairs.
+pub fn read_peaks(
+    list: i32,
+    summary: &[u8],
+    spoiled: usize,
+    words: &mut [i32],
+    bytes: &mut [u8],
+) -> Verdict {
+    let want = read_recorded(list, true);
+    judge_read(Way::Pairs, summary, spoiled, words, bytes, want)
 }
 
 // The walk stands at a group, and after the step is to stand at `next`.

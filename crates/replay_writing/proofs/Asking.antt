@@ -1,4 +1,4 @@
--- What is asked, said and left by the way of writing; an entry asked with samples ys, which are xs; calls in turn.
+-- What is asked, said and left by the way of writing; an entry asked with samples ys, which are xs.
 use Prim.Native.Nat.{ℕ}
 use mathlib.Core.Path.{_≡_, refl, sym, ap, _∙_}
 use mathlib.Core.Bool.{Bool, true, _&&_}
@@ -12,11 +12,10 @@ use Rattle.format.specs.Boundary.{modeOf, hostEncode, hostEncodeInto, hostReenc
 use Rattle.format.specs.declared.answers.Answer.{Answer}
 use Rattle.format.specs.declared.settings.PcmSpec.{PcmSpec}
 use Rattle.format.specs.declared.settings.StereoMode.{StereoMode}
-use Rattle.replay_list.specs.Said.{saidBy, saidByHost, wordOf, verdictOf}
+use Rattle.replay_list.specs.Said.{saidBy, saidByHost, wordOf}
 use Rattle.replay_list.specs.Bytes.{markedBytes, spoiledBytes, isAnswered}
 use Rattle.replay_list.specs.declared.answers.Recorded.{Recorded}
 use Rattle.replay_list.specs.declared.answers.Said.{Said}
-use Rattle.replay_list.specs.declared.answers.Verdict.{Verdict}
 use Rattle.replay_list.proofs.Wholes.{asked-bytes}
 use Rattle.replay_writing.specs.Written.{areWhole, isAsked, entrySays, entryPuts, hostSays, hostPuts, hostTells}
 use Rattle.replay_writing.specs.declared.Way.{Way}
@@ -74,8 +73,3 @@ pub asked-with : (told : List ℤ → List ℕ → Said) (put : List ℤ → Lis
     → (same ≡ isAnswered (told xs (markedBytes room)) (put xs (markedBytes room)) spoiled want) × (after ≡ spoiledBytes spoiled (put xs (markedBytes room)))
 asked-with told put ys xs room lent written after said spoiled want same h e f g a =
     asked-bytes (told xs) (put xs) room lent written after said spoiled want same e (f ∙ ap (λ (s : List ℤ). told s lent) h) (g ∙ ap (λ (s : List ℤ). put s lent) h) a
-
-pub in-turn : (first second : List ℕ → Bool) (left then : List ℕ → List ℕ) (room between after : List ℕ) (a b : Bool) (verdict : Verdict) (want : Recorded)
-    → (a ≡ first room) × (between ≡ left room) → (b ≡ second between) × (after ≡ then between) → verdict ≡ verdictOf (a && b) want
-    → (verdict ≡ verdictOf (first room && second (left room)) want) × (after ≡ then (left room))
-in-turn first second left then room between after a b verdict want e f v = (v ∙ rw (e .0, f .0, e .1) refl, f .1 ∙ rw (e .1) refl)

@@ -1,3 +1,3 @@
--- samples taken into a room; what is said and left, by the way of writing; calls that are asked in turn
+-- samples taken into a room; what is said and left, by the way of writing
 pub mod Taking
 pub mod Asking

@@ -27,6 +27,8 @@ fn groups_passed(outcome: Outcome) -> u32
         Outcome::Refused(_) => 0,
         Outcome::Opened(_) => 0,
         Outcome::Wrote(_) => 0,
+        Outcome::Matches => 0,
+        Outcome::Differs => 0,
     }
 }
 

@@ -34,8 +34,12 @@ result-spec =
     (λ c. search needs)
     (λ c. search needs)
     (λ c. search needs)
+    (λ c. search needs)
+    (λ c. search needs)
     returns
     returns-2
     (λ c. search needs)
     returns-4
+    (λ c. search needs)
+    (λ c. search needs)
     (λ c. search needs))

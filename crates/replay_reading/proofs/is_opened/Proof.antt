@@ -1,4 +1,4 @@
--- Only the outcome `Opened` has a header to compare; of the four others the definition says false.
+-- Only the outcome `Opened` has a header to compare; of the six others the definition says false.
 use borrow.Author.Needs.{needs}
 use Rattle.replay_reading.proofs.Opens.{opens-as, opens-not}
 use Rattle.replay_reading.proofs.is_opened.Statement.{statement}

@@ -1,7 +1,7 @@
 -- The boundary is lent the room as the entry leaves it, and both promise what they say and leave there.
 use borrow.Author.Needs.{needs}
+use Rattle.replay_list.proofs.Wholes.{in-turn}
 use Rattle.replay_writing.specs.Written.{entryWrites, leftByEntry, hostWrites, leftByHost}
-use Rattle.replay_writing.proofs.Asking.{in-turn}
 use Rattle.replay_writing.proofs.judge.Statement.{statement}
 use Rattle.replay_writing.proofs.judge.Tie as tie
 

@@ -1,4 +1,4 @@
-//! The crate over the archive, held to the list of recorded answers (`host/recorded`): all but the steps of walks, the group of encoding's 35 and where frames are refused, which it has no call for.
+//! The crate over the archive, held to the list of recorded answers (`host/recorded`): all but the steps of walks, the group of encoding's 35 and where frames and peaks are refused, which it has no call for.
 #[allow(dead_code)]
 #[path = "../../../recorded/draw.rs"]
 mod draw;
@@ -50,6 +50,16 @@ fn ask(question: &Question) -> Option<Given> {
             let call = |room: &mut [u8]| boundary::read_frames(file, *first, *count, room);
             Some(in_room(4 * question.room, 4, call, |number| told_of_frames(question, number)))
         }
+        22 => {
+            let call = |room: &mut [u8]| boundary::peaks(file, room);
+            Some(in_room(question.room, 1, call, |number| told_of_peaks(file, number)))
+        }
+        23 => {
+            let call = |room: &mut [u8]| boundary::peak(samples, *first, *count, room);
+            Some(in_room(4 * question.room, 4, call, |_| place(0, 0)))
+        }
+        24 => Some(in_room(4 * question.room, 4, |room| boundary::peaks_all(samples, room), |_| place(0, 0))),
+        25 => Some((checked(samples, file), Vec::new())),
         _ => None,
     }
 }
@@ -88,6 +98,25 @@ fn told_of_frames(question: &Question, number: u64) -> Vec<u8> {
         _ => Vec::new(),
     };
     [bits, place(refused.group, refused.channel)].concat()
+}
+
+/// No call of the archive tells where: of decoding's refusals this is the reference's, and the others name no place. The bits word is the crate's.
+fn told_of_peaks(file: &[u8], number: u64) -> Vec<u8> {
+    let (group, channel) = located::decoding(file).map_or((0, 0), |refused| (refused.group, refused.channel));
+    let bits = match number {
+        4 => bits_of_decoding(file).to_le_bytes().to_vec(),
+        _ => Vec::new(),
+    };
+    [bits, place(group, channel)].concat()
+}
+
+/// A length of 1 is yes, 0 is no; the sum is 0.
+fn checked(summary: &[u8], file: &[u8]) -> Vec<u8> {
+    let answer = boundary::peaks_check(summary, file);
+    match answer.checked_sub(boundary::REFUSED) {
+        Some(number) => [vec![number as u8], told_of_peaks(file, number)].concat(),
+        None => [&[0][..], &(answer as u32).to_le_bytes(), &[0; 4]].concat(),
+    }
 }
 
 /// The nine numbers of a file that opens.
@@ -143,10 +172,14 @@ fn words(bytes: &[u8]) -> Vec<i32> {
     bytes.chunks_exact(4).map(|four| i32::from_le_bytes([four[0], four[1], four[2], four[3]])).collect()
 }
 
-/// 32-bit numbers as digits to the base 1,000,003, modulo a prime.
+/// 32-bit numbers as digits to the base 1,000,003, modulo a prime. In a last word that is not whole the list has what its room was filled with.
 fn sum(bytes: &[u8]) -> u32 {
-    let digit = |sum: u64, number: &i32| (sum * 1_000_003 + u64::from(*number as u32)) % 4_294_967_291;
-    words(bytes).iter().fold(0, digit) as u32
+    let digit = |sum: u64, (place, part): (usize, &[u8])| {
+        let mut word = (0x5A5A_0000 + place as u32 % 65_536).to_le_bytes();
+        word[..part.len()].copy_from_slice(part);
+        (sum * 1_000_003 + u64::from(u32::from_le_bytes(word))) % 4_294_967_291
+    };
+    bytes.chunks(4).enumerate().fold(0, digit) as u32
 }
 
 /// As many are accepted as `replay` must print.
@@ -155,9 +188,17 @@ fn the_recorded_answers() {
     let replay = Path::new(env!("CARGO_MANIFEST_DIR")).join("../../crates/replay");
     let answers = reread(&fs::read(replay.join("data/answers")).unwrap(), ask);
     let text = fs::read_to_string(replay.join("stdout")).unwrap();
-    for (kind, name) in
-        [(16, "opening"), (17, "decoding"), (19, "encoding"), (20, "re-encoding"), (21, "reading frames")]
-    {
+    for (kind, name) in [
+        (16, "opening"),
+        (17, "decoding"),
+        (19, "encoding"),
+        (20, "re-encoding"),
+        (21, "reading frames"),
+        (22, "building peaks"),
+        (23, "reading a peak"),
+        (24, "reading peaks"),
+        (25, "checking peaks"),
+    ] {
         let accepted = answers.iter().filter(|answer| **answer == (kind, 0, false)).count();
         let begins = format!("{name}: accepted {accepted},");
         assert!(text.lines().any(|line| line.starts_with(&begins)), "{begins}");

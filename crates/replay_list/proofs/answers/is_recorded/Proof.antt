@@ -11,6 +11,7 @@ is-recorded-spec =
     (λ c κs. search needs)
     (λ c. search not-said)
     (λ c κs. search needs)
+    (λ c κs. search needs)
     (λ c. search no-room)
     (λ c κs. search needs)
     (λ c. search other-sum)

@@ -1,6 +1,6 @@
 -- The match knows the outcome, and each arm says what the definition says of it.
 use borrow.Author.Needs.{needs}
-use Rattle.replay_list.proofs.Sayings.{read-says, wrote-says, refused-says, finished-says, opened-says}
+use Rattle.replay_list.proofs.Sayings.{read-says, wrote-says, refused-says, finished-says, opened-says, matches-says, differs-says}
 use Rattle.replay_list.proofs.answers.of_outcome.Statement.{statement}
 use Rattle.replay_list.proofs.answers.of_outcome.Tie as tie
 
@@ -17,8 +17,14 @@ of-outcome-spec =
     (λ c. search needs)
     (λ c. search needs)
     (λ c κs. search needs)
+    (λ c. search needs)
+    (λ c κs. search needs)
+    (λ c. search needs)
+    (λ c κs. search needs)
     (λ c. search read-says)
     (λ c. search wrote-says)
     (λ c. search refused-says)
     (λ c. search finished-says)
-    (λ c. search opened-says))
+    (λ c. search opened-says)
+    (λ c. search matches-says)
+    (λ c. search differs-says))

@@ -1,0 +1,13 @@
+-- A number in its groups, by value.
+use Prim.Native.Nat.{ℕ, _≤_}
+use mathlib.Core.List.{List}
+use lib.ListN.{take}
+use Rattle.seven_bits.specs.declared.writing.Sevens.{Sevens}
+
+-- the bytes that count, of the five
+abbrev pub bytesOf : Sevens → List ℕ
+bytesOf w = take (w .len) (w .bytes)
+
+-- there is one, and at most as many
+abbrev pub Short : Sevens → Type 0
+Short w = (1 ≤ w .len) × (w .len ≤ 5)
