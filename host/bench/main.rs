@@ -1,4 +1,4 @@
-//! The Rust original and ours, timed in turns on the same files or samples: bench [encode|reencode|frames] [--short]
+//! The Rust original and ours, timed in turns on the same files or samples: bench [encode|reencode|frames|peaks] [--short]
 mod clock;
 mod decoding;
 mod encoding;
@@ -7,6 +7,7 @@ mod few_frames;
 #[path = "../definitions/files.rs"]
 mod files;
 mod input;
+mod peaks;
 #[allow(dead_code)]
 #[path = "../definitions/random.rs"]
 mod random;
@@ -67,7 +68,9 @@ fn main() {
         ["reencode", "--short"] | ["--short", "reencode"] => REENCODING.run(&SHORT),
         ["frames"] => few_frames::run(&ALL[1..]),
         ["frames", "--short"] | ["--short", "frames"] => few_frames::run(&SHORT),
-        _ => stop("usage: bench [encode|reencode|frames] [--short]"),
+        ["peaks"] => peaks::run(&ALL[1..]),
+        ["peaks", "--short"] | ["--short", "peaks"] => peaks::run(&SHORT),
+        _ => stop("usage: bench [encode|reencode|frames|peaks] [--short]"),
     };
 }
 

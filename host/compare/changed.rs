@@ -9,6 +9,15 @@ pub fn cut(bytes: Vec<u8>) -> Part<Vec<u8>> {
     Part::new(bytes.len() + 1, move |length| bytes[..length].to_vec())
 }
 
+/// Every value of each of the bytes.
+pub fn each_byte(bytes: Vec<u8>) -> Part<Vec<u8>> {
+    Part::new(256 * bytes.len(), move |k| {
+        let mut changed = bytes.clone();
+        changed[k / 256] = k as u8;
+        changed
+    })
+}
+
 /// Every short length of bytes that are no file.
 pub fn no_files() -> Vec<Part<Vec<u8>>> {
     let signature = [0x01, 0xA8, 0x9E, 0xD6, 0x31, 0x01, 0x00, 0x00];

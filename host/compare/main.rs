@@ -45,6 +45,7 @@ mod misfit;
 #[path = "../definitions/orders.rs"]
 mod orders;
 mod parts;
+mod peaks;
 mod picks;
 #[path = "../definitions/random.rs"]
 mod random;
@@ -57,6 +58,8 @@ mod run;
 mod samples;
 mod shrink;
 mod simpler;
+#[path = "../definitions/peaks.rs"]
+mod summaries;
 mod table;
 mod writing;
 
@@ -75,6 +78,8 @@ usage: compare [COUNT] [SEED] | compare --file FILE | compare --input FAMILY IND
        compare reencode --call SAMPLES TEMPLATE CHANNELS DEPTH RATE
        compare frames [COUNT] [SEED] | compare frames --input FAMILY INDEX [SEED]
        compare frames --range FILE FIRST COUNT
+       compare peaks [COUNT] [SEED] | compare peaks --input FAMILY INDEX [SEED]
+       compare peaks --call SUMMARY FILE GROUP CHANNEL
        compare limits";
 
 fn main() {
@@ -102,6 +107,13 @@ fn main() {
             one(&frames::Call { file: bytes_of(path), first: number(first), count: number(count) })
         }
         ["frames", ref words @ ..] => asked::<frames::Call>(words),
+        ["peaks", "--call", summary, file, group, channel] => one(&peaks::Call {
+            summary: bytes_of(summary),
+            file: bytes_of(file),
+            group: number(group),
+            channel: number(channel),
+        }),
+        ["peaks", ref words @ ..] => asked::<peaks::Call>(words),
         ["limits"] => limits::run(),
         ref words => asked::<Vec<u8>>(words),
     };

@@ -3,7 +3,7 @@ use super::edge::Edge;
 use crate::boundary;
 use crate::input::Input;
 use crate::lent::REFUSED;
-use crate::{encoding, frames, reencoding};
+use crate::{encoding, frames, peaks, reencoding};
 
 pub trait Fuzzed: Input {
     /// None where there are too few bytes.
@@ -52,6 +52,38 @@ impl Fuzzed for frames::Call {
         if answer < REFUSED {
             boundary::read_frames(file, self.first, self.count, samples.room(answer as usize));
         }
+    }
+}
+
+/// The group and the channel in 4 bytes each, in 2 how many bytes of the summary follow; after them the file.
+impl Fuzzed for peaks::Call {
+    fn from_bytes(bytes: &[u8]) -> Option<Self> {
+        let (head, rest) = bytes.split_first_chunk::<10>()?;
+        let (summary, file) = rest.split_at(rest.len().min(two(head, 8).into()));
+        let (group, channel) = (four(head, 0), four(head, 4));
+        Some(peaks::Call { summary: summary.to_vec(), file: file.to_vec(), group, channel })
+    }
+
+    fn to_bytes(&self) -> Option<Vec<u8>> {
+        let length = u16::try_from(self.summary.len()).ok()?.to_le_bytes();
+        let head = [&self.group.to_le_bytes()[..], &self.channel.to_le_bytes(), &length].concat();
+        Some([head, self.summary.clone(), self.file.clone()].concat())
+    }
+
+    /// Each that writes with all the room there is, then with just enough.
+    fn ask_at(&self, [summary, file, room]: &mut [Edge; 3]) {
+        let (summary, file) = (summary.of(&self.summary), file.of(&self.file));
+        twice(room, |room| boundary::peaks(file, room));
+        twice(room, |room| boundary::peaks_all(summary, room));
+        twice(room, |room| boundary::peak(summary, self.group, self.channel, room));
+        boundary::peaks_check(summary, file);
+    }
+}
+
+fn twice(room: &mut Edge, call: impl Fn(&mut [u8]) -> u64) {
+    let answer = call(room.room(usize::MAX));
+    if answer < REFUSED {
+        call(room.room(answer as usize));
     }
 }
 

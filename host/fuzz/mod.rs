@@ -4,7 +4,7 @@ mod edge;
 mod seeds;
 
 use crate::input::Tally;
-use crate::{encoding, frames, reencoding, report, stop};
+use crate::{encoding, frames, peaks, reencoding, report, stop};
 use bytes::Fuzzed;
 use std::ffi::{c_char, c_int};
 use std::process::{abort, exit};
@@ -21,7 +21,8 @@ pub extern "C" fn LLVMFuzzerInitialize(_: *const c_int, _: *const *const *const 
         Ok("encode") => begin::<encoding::Call>(),
         Ok("reencode") => begin::<reencoding::Call>(),
         Ok("frames") => begin::<frames::Call>(),
-        _ => stop("FUZZ is to be reading, encode, reencode or frames."),
+        Ok("peaks") => begin::<peaks::Call>(),
+        _ => stop("FUZZ is to be reading, encode, reencode, frames or peaks."),
     }
     0
 }

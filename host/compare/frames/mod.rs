@@ -5,7 +5,7 @@ mod families;
 mod mended;
 mod rooms;
 mod shrink;
-mod sides;
+pub mod sides;
 
 use crate::families::Family;
 use crate::input::{Difference, Input};

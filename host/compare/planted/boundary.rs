@@ -27,6 +27,52 @@ pub fn read_frames(file: &[u8], first: u32, count: u32, samples: &mut [u8]) -> u
     spoiled(answer, samples)
 }
 
+pub fn peaks(file: &[u8], summary: &mut [u8]) -> u64 {
+    read_past(file);
+    let answer = ours::boundary::peaks(file, summary);
+    spoil_input("a byte of the file changed", file);
+    match planted() {
+        "66 after 50" if answer == REFUSED + 66 && summary.is_empty() => REFUSED + 50,
+        _ => spoiled(answer, summary),
+    }
+}
+
+pub fn peak(summary: &[u8], group: u32, channel: u32, pair: &mut [u8]) -> u64 {
+    read_past(summary);
+    let answer = ours::boundary::peak(summary, group, channel, pair);
+    spoil_input("a byte of the summary changed", summary);
+    match planted() {
+        "67 before 63" if answer == REFUSED + 63 && channel > 9 => return REFUSED + 67,
+        "a pair by its number alone" if answer == REFUSED + 67 && group == 0 && 0 < channel && channel < 9 => {
+            return ours::boundary::peak(summary, 1, 0, pair);
+        }
+        "smallest and largest exchanged" if answer == 8 => pair[..8].rotate_left(4),
+        _ => (),
+    }
+    spoiled(answer, pair)
+}
+
+pub fn peaks_all(summary: &[u8], pairs: &mut [u8]) -> u64 {
+    read_past(summary);
+    let answer = ours::boundary::peaks_all(summary, pairs);
+    spoil_input("a byte of the summary changed", summary);
+    spoiled(answer, pairs)
+}
+
+pub fn peaks_check(summary: &[u8], file: &[u8]) -> u64 {
+    read_past(summary);
+    let answer = ours::boundary::peaks_check(summary, file);
+    spoil_input("a byte of the file changed", file);
+    let is_refused = |number: &u64| *number > REFUSED && *number != REFUSED + 50;
+    match (planted(), summary) {
+        ("yes to a byte more", [less @ .., _]) if answer == 0 => ours::boundary::peaks_check(less, file),
+        ("malformed bytes are refused", _) if answer == 0 => {
+            Some(ours::boundary::peaks_all(summary, &mut [])).filter(is_refused).unwrap_or(0)
+        }
+        _ => answer,
+    }
+}
+
 pub fn encode(samples: &[u8], channels: u16, depth: u16, rate: u32, mode: u32, file: &mut [u8]) -> u64 {
     read_past(samples);
     let answer = ours::boundary::encode(samples, channels, depth, rate, mode, file);

@@ -13,7 +13,7 @@ pub struct Opened {
     /// Table offset, data offset, data size.
     bounds: [u32; 3],
     offsets: Vec<u32>,
-    float: bool,
+    pub float: bool,
 }
 
 pub struct Said {

@@ -1,5 +1,5 @@
-//! The seven calls of the archive as they are. Five answer a length in bytes, or [`REFUSED`] plus the number of a refusal. The two
-//! others write nothing, and answer where a refusal is.
+//! The eleven calls of the archive as they are. Eight answer a length in bytes, or [`REFUSED`] plus the number of a refusal. The three
+//! others write nothing: one answers yes or no, or a refusal in the same way, and two where a refusal is.
 //!
 //! All that is `unsafe` in this crate is here.
 #![allow(unsafe_code)]
@@ -25,6 +25,17 @@ extern "C" {
         samples: *mut u8,
         samples_len: usize,
     ) -> u64;
+    fn ncw_peaks(file: *const u8, file_len: usize, summary: *mut u8, summary_len: usize) -> u64;
+    fn ncw_peak(
+        summary: *const u8,
+        summary_len: usize,
+        group: u32,
+        channel: u32,
+        pair: *mut u8,
+        pair_len: usize,
+    ) -> u64;
+    fn ncw_peaks_all(summary: *const u8, summary_len: usize, pairs: *mut u8, pairs_len: usize) -> u64;
+    fn ncw_peaks_check(summary: *const u8, summary_len: usize, file: *const u8, file_len: usize) -> u64;
     fn ncw_encode(
         samples: *const u8,
         samples_len: usize,
@@ -81,6 +92,36 @@ pub fn read_frames(file: &[u8], first: u32, count: u32, samples: &mut [u8]) -> u
     // SAFETY: the call reads the bytes of `file`, writes bytes of `samples`, touches no others, and keeps nothing of them.
     // The borrows keep the two apart.
     unsafe { ncw_read_frames(file.as_ptr(), file.len(), first, count, room, samples.len()) }
+}
+
+/// Builds the summary of a file's peaks: how many bytes of `summary` were written, from the first on. Where it refuses none is
+/// changed, and what lies after the written ones stays.
+pub fn peaks(file: &[u8], summary: &mut [u8]) -> u64 {
+    // SAFETY: the call reads the bytes of `file`, writes bytes of `summary`, touches no others, and keeps nothing of them.
+    // The borrows keep the two apart.
+    unsafe { ncw_peaks(file.as_ptr(), file.len(), summary.as_mut_ptr(), summary.len()) }
+}
+
+/// Reads the pair of a group and a channel of a summary: 8, which is how many bytes of `pair` were written, the smallest and then
+/// the largest sample, 4 to a sample with the lowest first. Where it refuses none is changed, and what lies after them stays.
+pub fn peak(summary: &[u8], group: u32, channel: u32, pair: &mut [u8]) -> u64 {
+    let room = pair.as_mut_ptr();
+    // SAFETY: the call reads the bytes of `summary`, writes bytes of `pair`, touches no others, and keeps nothing of them.
+    // The borrows keep the two apart.
+    unsafe { ncw_peak(summary.as_ptr(), summary.len(), group, channel, room, pair.len()) }
+}
+
+/// Reads all pairs of a summary, groups in order and channels within: how many bytes of `pairs` were written, as by [`peak`].
+pub fn peaks_all(summary: &[u8], pairs: &mut [u8]) -> u64 {
+    // SAFETY: the call reads the bytes of `summary`, writes bytes of `pairs`, touches no others, and keeps nothing of them.
+    // The borrows keep the two apart.
+    unsafe { ncw_peaks_all(summary.as_ptr(), summary.len(), pairs.as_mut_ptr(), pairs.len()) }
+}
+
+/// Whether the bytes are the summary of a file's peaks: 1 for yes, 0 for no.
+pub fn peaks_check(summary: &[u8], file: &[u8]) -> u64 {
+    // SAFETY: the call reads the bytes of `summary` and `file` and no others, and keeps nothing of them.
+    unsafe { ncw_peaks_check(summary.as_ptr(), summary.len(), file.as_ptr(), file.len()) }
 }
 
 /// Encodes samples, 4 bytes each with the lowest first: how many bytes of `file` were written, from the first on. `mode` is 0 for

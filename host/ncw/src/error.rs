@@ -3,7 +3,7 @@ use std::error::Error;
 use std::fmt;
 use std::io;
 
-/// Why a file was not opened or not decoded, or samples were not encoded or not re-encoded. [`Refused`](crate::Refused) tells where.
+/// Why a file was not opened or not decoded, samples were not encoded or not re-encoded, or peaks were not built or not read. [`Refused`](crate::Refused) tells where.
 #[derive(Debug)]
 pub enum NcwError {
     /// The input or the template ends too soon (refusal 1, of the kind [`io::ErrorKind::UnexpectedEof`]), or reading the input
@@ -20,8 +20,8 @@ pub enum NcwError {
     UnsupportedBitDepth(i16),
 }
 
-/// Every refusal of reading and of writing.
-const REFUSALS: [(u32, &str); 36] = [
+/// Every refusal of reading, of writing and of peaks.
+const REFUSALS: [(u32, &str); 43] = [
     (1, "the input ends too soon"),
     (2, "wrong file signature"),
     (3, "wrong block signature"),
@@ -58,6 +58,13 @@ const REFUSALS: [(u32, &str); 36] = [
     (46, "bytes left in a template group"),
     (50, "lent output too short"),
     (51, "first frame plus count over the file's frames"),
+    (60, "a number of the summary is cut short"),
+    (61, "a number of the summary ends with a byte of zero after others"),
+    (62, "a number of the summary over 32 bits"),
+    (63, "bytes left over after the summary"),
+    (64, "smallest above largest"),
+    (66, "a float file has no summary of peaks"),
+    (67, "past the summary's last group or channel"),
 ];
 
 /// What no number stands for.

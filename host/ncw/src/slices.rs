@@ -71,6 +71,46 @@ pub fn read_frames_bytes(file: &[u8], first: u32, count: u32, samples: &mut [u8]
     answered(answer, || bits_beyond(file, first, count))
 }
 
+/// Builds the summary of a file's peaks into room that the caller lends: how many bytes were written, from the first on. What lies
+/// after them stays, and where it refuses nothing is changed. Refused are what [`decode_into`] refuses, then a float file by 66, and
+/// last of all too little room by 50.
+///
+/// Ten bytes for each group and channel, and ten more, are always enough; with less room the file's groups are gone over twice, the
+/// first time to see how long the summary is.
+///
+/// ```
+/// use ncw::{build_peaks_into, encode_pcm, PcmSpec, StereoMode};
+///
+/// let spec = PcmSpec { channels: 1, bits_per_sample: 16, sample_rate: 44_100 };
+/// let file = encode_pcm(&[3, -1, 4], spec, StereoMode::Auto).unwrap();
+/// let mut room = [7; 20];
+/// assert_eq!(build_peaks_into(&file, &mut room).unwrap(), 4);
+/// assert_eq!(room[..5], [3, 1, 1, 8, 7]);
+/// assert_eq!(build_peaks_into(&file, &mut room[..3]).unwrap_err().number(), Some(50));
+/// ```
+pub fn build_peaks_into(file: &[u8], summary: &mut [u8]) -> Result<usize, NcwError> {
+    answered(boundary::peaks(file, summary), || bits_in(file))
+}
+
+/// Reads of a summary of peaks the smallest and the largest sample of a group and a channel. The whole summary is checked first, so
+/// for more than one pair [`Peaks`](crate::Peaks) is better than many calls. Past the last group or channel is refusal 67.
+///
+/// ```
+/// assert_eq!(ncw::read_peak(&[3, 1, 1, 8], 0, 0).unwrap(), (-1, 4));
+/// assert_eq!(ncw::read_peak(&[3, 1, 1, 8], 0, 1).unwrap_err().number(), Some(67));
+/// assert_eq!(ncw::read_peak(&[3, 1, 8, 1], 0, 0).unwrap_err().number(), Some(64));
+/// ```
+pub fn read_peak(summary: &[u8], group: u32, channel: u32) -> Result<(i32, i32), NcwError> {
+    let mut pair = [0; 2];
+    answered(boundary::peak(summary, group, channel, boundary::as_bytes_mut(&mut pair)), || None)?;
+    Ok((pair[0], pair[1]))
+}
+
+/// The bits word of 4, of a file that is refused so.
+pub(crate) fn bits_in(file: &[u8]) -> Option<i16> {
+    Some(decode_refusal(file, usize::MAX)?.bits())
+}
+
 /// The length that a call answered, or its refusal. What `bits` says is asked for 4 alone: the bits word.
 pub(crate) fn answered(answer: u64, bits: impl FnOnce() -> Option<i16>) -> Result<usize, NcwError> {
     match answer.checked_sub(boundary::REFUSED) {
