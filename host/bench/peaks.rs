@@ -38,7 +38,7 @@ fn measure(row: &Row) -> f64 {
     let (file, mut samples) = (&input.file, input.samples.clone());
     let peaks = agree(&input);
     let summary = peaks.bytes();
-    let (mut ample, mut exact) = (vec![1; file.len() / 8 + 10], vec![1; summary.len()]);
+    let (mut ample, mut exact) = (vec![1; file.len() / 8], vec![1; summary.len()]);
     let last = peaks.groups() - 1;
     let times = least(if row.seconds > 60 { 5 } else { 11 }, || {
         [

@@ -66,9 +66,10 @@ pub record Peaked : Type 0 where
   pub no-more : comparePeaksOf (1 ∷ 1 ∷ 10 ∷ 10 ∷ 0 ∷ []) five ≡ answeredBy Differs
   pub no-long : comparePeaksOf (1 ∷ 0x81 ∷ 0 ∷ 10 ∷ 10 ∷ []) five ≡ answeredBy Differs
   pub float-compared : comparePeaksOf [] (two 1 floats floats) ≡ refusedBy FloatFile nowhere
-  -- ---- reading: no number, no channels, which comes after its number; without pairs
+  -- ---- reading: no number; no channels, after that number and before bytes left over; without pairs
   pub no-number : said (checkSummary []) ≡ 60
   pub no-channels : said (checkSummary (0 ∷ 0 ∷ [])) ≡ 10
+  pub no-channels-behind : said (checkSummary (0 ∷ 0 ∷ 9 ∷ [])) ≡ 10
   pub long-channels : said (checkSummary (0 ∷ 0x80 ∷ 0 ∷ [])) ≡ 61
   pub pairless : said (checkSummary (0 ∷ 1 ∷ [])) ≡ 0
   -- a pair cut short; the smallest above the largest, before the next pair is looked at; −1 is below 0
@@ -141,6 +142,7 @@ peaked =
       float-compared = refl;
       no-number = refl;
       no-channels = refl;
+      no-channels-behind = refl;
       long-channels = refl;
       pairless = refl;
       half-a-pair = refl;

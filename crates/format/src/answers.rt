@@ -39,8 +39,8 @@ pub struct Peak {
     pub largest: i32,
 }
 
-// A file was opened, samples were read, no group was left, bytes were written, nothing was done, for this reason, or
-// bytes were compared: they are what was expected, or not.
+// A file was opened, samples were read, no group was left, bytes were written, bytes were found to be what was expected
+// or not; or nothing was done, for this reason.
 pub enum Outcome {
     Opened(Header),
     Read(Samples),

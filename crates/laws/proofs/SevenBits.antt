@@ -11,8 +11,6 @@ use lib.Seq.{take-at, drop-at, getD-take, getD-drop}
 use lib.IntN.{ℤ, pos, negsuc}
 use lib.Signed.{mag}
 use lib.Dec.{ltb, eqb}
-use mir.Syntax.{w32}
-use mir.Val.{SFits}
 use borrow.Author.Tests.{ltb-true, ltb-false, eqb-true, eqb-false, lt-ltb, le-ltb, eq-eqb, ne-eqb}
 use Rattle.format.specs.Numbers.{num, Below}
 use Rattle.format.specs.Refusals.{nowhere, refuse, _then_}
@@ -167,15 +165,15 @@ only-zero zero = refl
 only-zero (suc m) = refl
 
 -- m bytes with the high bit set, and the last one
-held-lt : (k : ℕ) (s : List ℕ) (m : ℕ) → m ≡ marked k s → Below 256 s → (m ≡ k → getD s k 0 < 16) → held (take (suc m) s) < most k
+held-lt : (k : ℕ) (s : List ℕ) (m : ℕ) → m ≡ marked k s → (m ≡ k → getD s k 0 < 16) → held (take (suc m) s) < most k
 unfolding num
-held-lt k [] m e byte small = omega (arith, most-some k)
-held-lt zero (b ∷ s) zero e byte small = let h : b < 16 = small refl in omega arith
-held-lt zero (b ∷ s) (suc m) e byte small = absurd (omega (arith, marked-none (b ∷ s)))
-held-lt (suc k) (b ∷ s) zero e byte small = omega (arith, most-some k)
-held-lt (suc k) (b ∷ s) (suc m) e byte small =
+held-lt k [] m e small = omega (arith, most-some k)
+held-lt zero (b ∷ s) zero e small = let h : b < 16 = small refl in omega arith
+held-lt zero (b ∷ s) (suc m) e small = absurd (omega (arith, marked-none (b ∷ s)))
+held-lt (suc k) (b ∷ s) zero e small = omega (arith, most-some k)
+held-lt (suc k) (b ∷ s) (suc m) e small =
     last-or-more b (λ l. absurd (omega (arith, marked-last k b s l)))
-    (λ l. omega (arith, held-lt k s m (omega (arith, marked-more k b s l)) (λ i. byte (suc i)) (λ q. small (ap suc q))))
+    (λ l. omega (arith, held-lt k s m (omega (arith, marked-more k b s l)) (λ q. small (ap suc q))))
 
 one-in : (k : ℕ) (s : List ℕ) (m : ℕ) → m ≡ marked k s → Below 256 s → m < length s → (m ≡ k → getD s k 0 < 16) → (0 < m → 0 < getD s m 0)
     → take (suc m) s ≡ sevenIn k (held (take (suc m) s))
@@ -343,12 +341,12 @@ module _ (s : List ℕ) where
               never (sym (so-long (fine-long, omega arith, ap (λ (i : ℕ). getD s i 0) e ∙ z)) ∙ passed _ _ (others-fine (refuse large NumberTooLarge) _ rest-fine))
         ]
 
-    module _ (byte : Below 256 s) where
-      -- below 2 ^ 32
-      pub value-few : sevenValue s < 2 ^ 32
-      unfolding sevenValue sevenLength
-      value-few = held-lt 4 s (marked 4 s) refl byte fifth-small
+    -- below 2 ^ 32
+    pub value-few : sevenValue s < 2 ^ 32
+    unfolding sevenValue sevenLength
+    value-few = held-lt 4 s (marked 4 s) refl fifth-small
 
+    module _ (byte : Below 256 s) where
       -- its bytes are those of its value
       pub value-bytes : take (sevenLength s) s ≡ seven (sevenValue s)
       unfolding sevenValue sevenLength seven
@@ -397,6 +395,3 @@ unfolded-holds n h = by (eqb (n % 2) 0)
     by : (b : Bool) → mag (cond b (pos (n / 2)) (negsuc (n / 2))) < 2 ^ 31
     by true = omega arith
     by false = omega arith
-
-pub unfolded-fits : (n : ℕ) → n < 2 ^ 32 → SFits w32 (unfolded n)
-unfolded-fits n h = record { sfits = unfolded-holds n h }

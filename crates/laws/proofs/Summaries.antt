@@ -7,17 +7,17 @@ use mathlib.Core.List.{List, [], _∷_, _++_, append-assoc, append-nil}
 use mathlib.Core.Logic.{_⊎_, ⊎-elim, inl, inr}
 use native.Mathlib.Omega.{arith}
 use native.Mathlib.Nat.{add-zero, mul-comm, mul-assoc, zero-add, suc-mul, mod-lt, div-lt-iff-lt-mul}
-use lib.ListN.{length, getD, length-append}
+use lib.ListN.{length, getD, length-append, length-drop}
 use lib.IntN.{ℤ, pos}
 use lib.Signed.{mag, leZ}
 use lib.Dec.{ltb, eqb}
 use lib.Arith.{digits-lt, digits-div, digits-mod}
-use borrow.Author.Tests.{ltb-true, ltb-false, eqb-true, eqb-false, lt-ltb, le-ltb, ne-eqb, not-true, not-false}
-use Rattle.format.specs.Lists.{joined, from, isIn}
+use borrow.Author.Tests.{ltb-true, ltb-false, eqb-true, eqb-false, lt-ltb, le-ltb, eq-eqb, ne-eqb, not-true, not-false}
+use Rattle.format.specs.Lists.{joined, from, every, isIn}
 use Rattle.format.specs.Numbers.{Below}
 use Rattle.format.specs.Header.{groupsOf}
 use Rattle.format.specs.Refusals.{number, nowhere, refuse, _then_, inOrder}
-use Rattle.format.specs.SevenBits.{seven, sevenValue, checkSeven, past, folded, unfolded}
+use Rattle.format.specs.SevenBits.{seven, sevenLength, sevenValue, checkSeven, past, folded, unfolded}
 use Rattle.format.specs.Peaks.{pairNumber, pairSamples, pairsFrom, checkPeak, checkAllPeaks, peakOf, pairBytes, summaryBytes, summaryFrames, summaryChannels, pairCount, fromPair, pairOf, checkTwo, checkPair, checkSummary}
 use Rattle.format.specs.declared.refusals.Refusal.{Refusal}
 use Rattle.format.specs.declared.refusals.Refusal.the-variants.{ZeroChannels, OutputTooShort, BytesBehind, PeaksCrossed, PairPastEnd}
@@ -27,11 +27,11 @@ use Rattle.format.specs.declared.refusals.Checked.the-variants.{Fine, No}
 use Rattle.format.specs.declared.units.Frames.{Frames}
 use Rattle.format.specs.declared.answers.Peak.{Peak}
 use Rattle.laws.proofs.Parts.{length-even, part-at, joined-add, joined-cong, length-most}
-use Rattle.laws.proofs.Located.{Says, says-order, _and-says_, refused-so, Only, only, only-unsaid}
-use Rattle.laws.proofs.Chain.{stop-then, not-yes, not-no, room-short}
-use Rattle.laws.proofs.Checks.{pass, passed, _and-then_, first-fine, others-fine, Unsaid, unsaid, _nor_, said-after, said-before, in-order, order-fine}
+use Rattle.laws.proofs.Located.{Says, says-order, _and-says_, refused-so, Only, only, only-unsaid, only-among}
+use Rattle.laws.proofs.Chain.{stop, stop-then, not-yes, not-no, room-short}
+use Rattle.laws.proofs.Checks.{pass, passed, _and-then_, first-fine, others-fine, Unsaid, unsaid, _nor_, said-after, said-before, in-order, order-fine, order-refuses, refusal-first}
 use Rattle.laws.proofs.Wrap.{Fit}
-use Rattle.laws.proofs.SevenBits.{seven-value, seven-fine, seven-past, seven-most, value-split, past-byte, unfolded-folded, folded-unfolded, folded-few}
+use Rattle.laws.proofs.SevenBits.{seven-value, seven-fine, seven-past, seven-most, fine-long, value-split, past-byte, unfolded-folded, folded-unfolded, folded-few}
 use Rattle.laws.proofs.Extremes.{AtMost, le-after, IsExtreme, smallest-is, largest-is}
 
 -- ---- a pair that a summary holds: of 32 bits, and not crossed
@@ -185,28 +185,48 @@ module _ (frames : Frames) (channels : ℕ) (peak : ℕ → ℕ → Peak) (few :
       and-then pass _ BytesBehind (ap (λ (x : List ℕ). not (eqb (length x) 0)) (ap (fromPair written) written-count ∙ from-pair count (omega arith) ∙ rest-none))
 
 -- ---- A SUMMARY THAT PASSES IS ITS NUMBERS
-module _ (s : List ℕ) (byte : Below 256 s) (fine : checkSummary s ≡ Fine) where
-  two-fine : checkTwo s ≡ Fine
+
+-- two numbers that pass take two bytes at least
+two-long : (t : List ℕ) → checkTwo t ≡ Fine → length (past t 2) + 2 ≤ length t
+unfolding checkTwo past sevenLength
+two-long t fine =
+    let u = past t 1 in
+    omega (arith, fine-long t (first-fine _ _ fine), fine-long u (others-fine (checkSeven t) _ fine), length-drop (sevenLength t) t, length-drop (sevenLength u) u)
+
+module _ (s : List ℕ) (fine : checkSummary s ≡ Fine) where
+  pub summary-two : checkTwo s ≡ Fine
   unfolding checkSummary
-  two-fine = first-fine _ _ fine
+  summary-two = first-fine _ _ fine
 
   later-fine : (refuse (eqb (summaryChannels s) 0) ZeroChannels then inOrder (λ k. checkPair (fromPair s k)) (pairCount s) then refuse (not (eqb (length (fromPair s (pairCount s))) 0)) BytesBehind) ≡ Fine
   unfolding checkSummary
   later-fine = others-fine (checkTwo s) _ fine
 
-  pub summary-some : 1 ≤ summaryChannels s
-  summary-some = let e = eqb-false (summaryChannels s) 0 (passed _ _ (first-fine _ _ later-fine)) in omega arith
-
-  pub pair-passes : (k : ℕ) → k < pairCount s → checkPair (fromPair s k) ≡ Fine
+  pair-passes : (k : ℕ) → k < pairCount s → checkPair (fromPair s k) ≡ Fine
   pair-passes k l = order-fine (λ i. checkPair (fromPair s i)) k (pairCount s) l (first-fine _ _ (others-fine _ _ later-fine))
 
-  pub none-behind : fromPair s (pairCount s) ≡ []
+  pub each-two : (k : ℕ) → k < pairCount s → checkTwo (fromPair s k) ≡ Fine
+  unfolding checkPair
+  each-two k l = first-fine _ _ (pair-passes k l)
+
+  none-behind : fromPair s (pairCount s) ≡ []
   none-behind = empty (fromPair s (pairCount s)) (eqb-true _ 0 (not-false _ (passed _ _ (others-fine _ _ (others-fine _ _ later-fine)))))
     where
       empty : (x : List ℕ) → length x ≡ 0 → x ≡ []
       empty [] e = refl
       empty (y ∷ ys) e = absurd (omega arith)
 
+  -- each of its pairs takes two bytes at least
+  left-long : (k : ℕ) → k ≤ pairCount s → 2 * k + length (fromPair s k) ≤ length s
+  unfolding fromPair
+  left-long zero l = omega (arith, two-long s summary-two)
+  left-long (suc k) l = omega (arith, left-long k (omega arith), two-long (fromPair s k) (each-two k (omega arith)))
+
+  pub pairs-within : 2 * pairCount s ≤ length s
+  pairs-within = omega (arith, left-long (pairCount s) (omega arith))
+
+-- of bytes
+module _ (s : List ℕ) (byte : Below 256 s) (fine : checkSummary s ≡ Fine) where
   -- its bytes from pair k on are bytes
   pub from-byte : (k : ℕ) → Below 256 (fromPair s k)
   unfolding fromPair
@@ -222,15 +242,15 @@ module _ (s : List ℕ) (byte : Below 256 s) (fine : checkSummary s ≡ Fine) wh
 
   pub summary-split : s ≡ seven (sevenValue s) ++ (seven (summaryChannels s) ++ fromPair s 0)
   unfolding fromPair
-  summary-split = two-split s byte two-fine
+  summary-split = two-split s byte (summary-two s fine)
 
   pub pair-is : (k : ℕ) → k < pairCount s → fromPair s k ≡ pairBytes (pairOf (fromPair s k)) ++ fromPair s (suc k)
-  unfolding checkPair fromPair pairBytes pairOf
+  unfolding fromPair pairBytes pairOf
   pair-is k l =
       let t = fromPair s k in
       let m = sevenValue t in
       let n = sevenValue (past t 1) in
-      two-split t (from-byte k) (first-fine _ _ (pair-passes k l))
+      two-split t (from-byte k) (each-two s fine k l)
       ∙ sym (append-assoc (seven m) (seven n) (past t 2))
       ∙ ap₂ (λ (x y : ℕ). (seven x ++ seven y) ++ past t 2) (sym (folded-unfolded m)) (sym (folded-unfolded n))
 
@@ -245,7 +265,7 @@ module _ (s t : List ℕ) (byte : Below 256 s) (byte′ : Below 256 t) (fine : c
   left-same : (m k : ℕ) → k + m ≡ pairCount s → fromPair s k ≡ fromPair t k
   left-same zero k e =
       let q : k ≡ pairCount s = omega arith in
-      ap (fromPair s) q ∙ none-behind s byte fine ∙ sym (none-behind t byte′ fine′) ∙ ap (fromPair t) (sym (q ∙ count-same))
+      ap (fromPair s) q ∙ none-behind s fine ∙ sym (none-behind t fine′) ∙ ap (fromPair t) (sym (q ∙ count-same))
   left-same (suc m) k e =
       pair-is s byte fine k (omega arith)
       ∙ ap₂ (λ (p : Peak) (x : List ℕ). pairBytes p ++ x) (pairs-same k (omega arith)) (left-same m (suc k) (omega arith))
@@ -311,28 +331,194 @@ summary-most frames channels peak =
 
 -- ---- BY WHICH NUMBER
 
+-- of the two numbers with which t begins, the first that does not pass says x
+abbrev pub NumberSays : Refusal → List ℕ → Type 0
+NumberSays x t = (checkSeven t ≡ No x nowhere) ⊎ ((checkSeven t ≡ Fine) × (checkSeven (past t 1) ≡ No x nowhere))
+
+-- pair k is come to: the numbers before the pairs pass, there are channels, and all pairs before it pass
+pub record ComesTo (s : List ℕ) (k : ℕ) : Type 0 where
+  pub numbers : checkTwo s ≡ Fine
+  pub channels : 1 ≤ summaryChannels s
+  pub below : k < pairCount s
+  pub before : (i : ℕ) → i < k → checkPair (fromPair s i) ≡ Fine
+
+abbrev sevenNumbers : List ℕ
+sevenNumbers = 60 ∷ 61 ∷ 62 ∷ []
+
+abbrev pairNumbers : List ℕ
+pairNumbers = 60 ∷ 61 ∷ 62 ∷ 64 ∷ []
+
 abbrev summaryNumbers : List ℕ
 summaryNumbers = 60 ∷ 61 ∷ 62 ∷ 10 ∷ 63 ∷ 64 ∷ []
 
-module _ (s : List ℕ) where
-  seven-says : (t : List ℕ) → Says (Only summaryNumbers) (checkSeven t)
-  unfolding checkSeven isIn
-  seven-says t = let one = only summaryNumbers in one _ _ refl and-says one _ _ refl and-says one _ _ refl
+-- ---- of two numbers, and of a pair
+seven-says : (t : List ℕ) → Says (Only sevenNumbers) (checkSeven t)
+unfolding checkSeven isIn
+seven-says t = let one = only sevenNumbers in one _ _ refl and-says one _ _ refl and-says one _ _ refl
 
-  two-says : (t : List ℕ) → Says (Only summaryNumbers) (checkTwo t)
+module _ (t : List ℕ) where
+  two-says : Says (Only sevenNumbers) (checkTwo t)
   unfolding checkTwo
-  two-says t = seven-says t and-says seven-says (past t 1)
+  two-says = seven-says t and-says seven-says (past t 1)
 
-  pair-says : (t : List ℕ) → Says (Only summaryNumbers) (checkPair t)
+  pair-says : Says (Only pairNumbers) (checkPair t)
+  unfolding checkPair every isIn
+  pair-says = only-among sevenNumbers (checkTwo t) two-says pairNumbers refl and-says only pairNumbers _ _ refl
+
+  two-unsaid : (x : Refusal) → isIn (number x) sevenNumbers ≡ false → Unsaid x (checkTwo t)
+  two-unsaid = only-unsaid sevenNumbers (checkTwo t) two-says
+
+  -- one of the two
+  two-so : (x : Refusal) → checkTwo t ≡ No x nowhere → NumberSays x t
+  unfolding checkTwo _then_
+  two-so x = by (checkSeven t)
+    where
+      by : (c : Checked) → (c then checkSeven (past t 1)) ≡ No x nowhere → (c ≡ No x nowhere) ⊎ ((c ≡ Fine) × (checkSeven (past t 1) ≡ No x nowhere))
+      by Fine e = inr (refl, e)
+      by (No r at) e = inl e
+
+  so-two : (x : Refusal) → NumberSays x t → checkTwo t ≡ No x nowhere
+  unfolding checkTwo _then_
+  so-two x =
+      ⊎-elim (λ (e : checkSeven t ≡ No x nowhere). ap (λ (c : Checked). c then checkSeven (past t 1)) e)
+      (λ (e : (checkSeven t ≡ Fine) × (checkSeven (past t 1) ≡ No x nowhere)). e .0 and-then e .1)
+
+  abbrev crossed : Checked
+  crossed = refuse (not (leZ (pairOf t .smallest) (pairOf t .largest))) PeaksCrossed
+
+  -- a pair says a number's refusal where one of its numbers does
+  pair-two-so : (x : Refusal) → eqb 64 (number x) ≡ false → checkPair t ≡ No x nowhere → NumberSays x t
+  unfolding checkPair
+  pair-two-so x n e = two-so x (said-before x nowhere (checkTwo t) crossed (unsaid x PeaksCrossed _ n) e)
+
+  so-pair-two : (x : Refusal) → NumberSays x t → checkPair t ≡ No x nowhere
+  unfolding checkPair _then_
+  so-pair-two x e = ap (λ (c : Checked). c then crossed) (so-two x e)
+
+  -- and 64 where both pass, and the largest is below the smallest
+  pair-crossed-so : checkPair t ≡ No PeaksCrossed nowhere → (checkTwo t ≡ Fine) × (leZ (pairOf t .smallest) (pairOf t .largest) ≡ false)
   unfolding checkPair isIn
-  pair-says t = two-says t and-says only summaryNumbers _ _ refl
+  pair-crossed-so e =
+      let q = said-after PeaksCrossed nowhere (checkTwo t) crossed (two-unsaid PeaksCrossed refl) e in
+      (q .0, not-true _ (refused-so _ PeaksCrossed PeaksCrossed nowhere (q .1) .0))
+
+  so-pair-crossed : checkTwo t ≡ Fine → leZ (pairOf t .smallest) (pairOf t .largest) ≡ false → checkPair t ≡ No PeaksCrossed nowhere
+  unfolding checkPair
+  so-pair-crossed fine e = fine and-then sym (stop PeaksCrossed _ (not-no _ e))
+
+module _ (s : List ℕ) where
+  abbrev none : Checked
+  none = refuse (eqb (summaryChannels s) 0) ZeroChannels
+
+  abbrev pairs : Checked
+  pairs = inOrder (λ k. checkPair (fromPair s k)) (pairCount s)
+
+  abbrev behind : Checked
+  behind = refuse (not (eqb (length (fromPair s (pairCount s))) 0)) BytesBehind
+
+  pairs-say : Says (Only pairNumbers) pairs
+  pairs-say = says-order (Only pairNumbers) (λ k. checkPair (fromPair s k)) (pairCount s) (λ k l. pair-says (fromPair s k))
 
   -- what is refused of a summary's bytes names nothing
   pub summary-says : Says (Only (60 ∷ 61 ∷ 62 ∷ 10 ∷ 63 ∷ 64 ∷ [])) (checkSummary s)
-  unfolding checkSummary isIn
+  unfolding checkSummary every isIn
   summary-says =
       let one = only summaryNumbers in
-      two-says s and-says one _ _ refl and-says says-order (Only summaryNumbers) (λ k. checkPair (fromPair s k)) (pairCount s) (λ k l. pair-says (fromPair s k)) and-says one _ _ refl
+      only-among sevenNumbers (checkTwo s) (two-says s) summaryNumbers refl and-says one _ _ refl
+      and-says only-among pairNumbers pairs pairs-say summaryNumbers refl and-says one _ _ refl
+
+  -- 10
+  pub no-channels-so : checkSummary s ≡ No ZeroChannels nowhere → (checkTwo s ≡ Fine) × (summaryChannels s ≡ 0)
+  unfolding checkSummary isIn
+  no-channels-so e =
+      let x = ZeroChannels in
+      let q = said-after x nowhere (checkTwo s) _ (two-unsaid s x refl) e in
+      let r = said-before x nowhere none (pairs then behind) (only-unsaid pairNumbers pairs pairs-say x refl nor unsaid x BytesBehind _ refl) (q .1) in
+      (q .0, eqb-true (summaryChannels s) 0 (refused-so _ x x nowhere r .0))
+
+  pub so-no-channels : checkTwo s ≡ Fine → summaryChannels s ≡ 0 → checkSummary s ≡ No ZeroChannels nowhere
+  unfolding checkSummary
+  so-no-channels fine e = fine and-then sym (stop-then ZeroChannels _ _ (eq-eqb (summaryChannels s) 0 e))
+
+  -- after the two numbers and 10
+  later-so : (x : Refusal) → eqb 10 (number x) ≡ false → (none then pairs then behind) ≡ No x nowhere → (1 ≤ summaryChannels s) × ((pairs then behind) ≡ No x nowhere)
+  later-so x n e =
+      let q = said-after x nowhere none (pairs then behind) (unsaid x ZeroChannels _ n) e in
+      let z = eqb-false (summaryChannels s) 0 (passed _ _ (q .0)) in
+      (omega arith, q .1)
+
+  so-later : (x : Refusal) → checkTwo s ≡ Fine → 1 ≤ summaryChannels s → (pairs then behind) ≡ No x nowhere → checkSummary s ≡ No x nowhere
+  unfolding checkSummary
+  so-later x fine some e = fine and-then pass _ ZeroChannels (ne-eqb (summaryChannels s) 0 (λ z. omega arith)) and-then e
+
+  -- 63
+  pub bytes-behind-so : checkSummary s ≡ No BytesBehind nowhere
+      → (checkTwo s ≡ Fine) × (1 ≤ summaryChannels s) × ((k : ℕ) → k < pairCount s → checkPair (fromPair s k) ≡ Fine) × (1 ≤ length (fromPair s (pairCount s)))
+  unfolding checkSummary isIn
+  bytes-behind-so e =
+      let x = BytesBehind in
+      let q = said-after x nowhere (checkTwo s) _ (two-unsaid s x refl) e in
+      let r = later-so x refl (q .1) in
+      let a = said-after x nowhere pairs behind (only-unsaid pairNumbers pairs pairs-say x refl) (r .1) in
+      let z = eqb-false (length (fromPair s (pairCount s))) 0 (not-true _ (refused-so _ x x nowhere (a .1) .0)) in
+      (q .0, r .0, λ k l. order-fine (λ i. checkPair (fromPair s i)) k (pairCount s) l (a .0), omega arith)
+
+  pub so-bytes-behind : checkTwo s ≡ Fine → 1 ≤ summaryChannels s → ((k : ℕ) → k < pairCount s → checkPair (fromPair s k) ≡ Fine) → 1 ≤ length (fromPair s (pairCount s))
+      → checkSummary s ≡ No BytesBehind nowhere
+  so-bytes-behind fine some each more =
+      so-later BytesBehind fine some
+      (in-order (λ k. checkPair (fromPair s k)) (pairCount s) each
+      and-then sym (stop BytesBehind _ (not-no _ (ne-eqb (length (fromPair s (pairCount s))) 0 (λ z. omega arith)))))
+
+  -- what the pairs say: the first that does not pass
+  pair-so : (x : Refusal) → eqb 10 (number x) ≡ false → eqb 63 (number x) ≡ false → checkTwo s ≡ Fine → (none then pairs then behind) ≡ No x nowhere
+      → (k : ℕ) × ComesTo s k × (checkPair (fromPair s k) ≡ No x nowhere)
+  pair-so x m n fine e =
+      let q = later-so x m e in
+      let check : ℕ → Checked = λ k. checkPair (fromPair s k) in
+      let f = refusal-first check (pairCount s) x nowhere (said-before x nowhere pairs behind (unsaid x BytesBehind _ n) (q .1)) in
+      (f .at, record { numbers = fine; channels = q .0; below = f .below; before = λ i l. order-fine check i (f .at) l (f .before) }, f .refuses)
+
+  so-pair : (x : Refusal) (k : ℕ) → ComesTo s k → checkPair (fromPair s k) ≡ No x nowhere → checkSummary s ≡ No x nowhere
+  unfolding _then_
+  so-pair x k c e =
+      let check : ℕ → Checked = λ i. checkPair (fromPair s i) in
+      so-later x (c .numbers) (c .channels)
+      (ap (λ (y : Checked). y then behind) (order-refuses check (pairCount s) x nowhere (record { at = k; below = c .below; before = in-order check k (c .before); refuses = e })))
+
+  -- 64
+  pub crossed-so : checkSummary s ≡ No PeaksCrossed nowhere
+      → (k : ℕ) × ComesTo s k × (checkTwo (fromPair s k) ≡ Fine) × (leZ (pairOf (fromPair s k) .smallest) (pairOf (fromPair s k) .largest) ≡ false)
+  unfolding checkSummary isIn
+  crossed-so e =
+      let q = said-after PeaksCrossed nowhere (checkTwo s) _ (two-unsaid s PeaksCrossed refl) e in
+      let p = pair-so PeaksCrossed refl refl (q .0) (q .1) in
+      let c = pair-crossed-so (fromPair s (p .0)) (p .2) in
+      (p .0, p .1, c .0, c .1)
+
+  pub so-crossed : (k : ℕ) → ComesTo s k → checkTwo (fromPair s k) ≡ Fine → leZ (pairOf (fromPair s k) .smallest) (pairOf (fromPair s k) .largest) ≡ false
+      → checkSummary s ≡ No PeaksCrossed nowhere
+  so-crossed k c fine e = so-pair PeaksCrossed k c (so-pair-crossed (fromPair s k) fine e)
+
+  -- 60, 61 and 62
+  pub number-so : (x : Refusal) → 60 ≤ number x → number x ≤ 62 → checkSummary s ≡ No x nowhere → NumberSays x s ⊎ ((k : ℕ) × ComesTo s k × NumberSays x (fromPair s k))
+  unfolding checkSummary _then_
+  number-so x l m e = by (checkTwo s) refl
+    where
+      other : (n : ℕ) → (n ≡ number x → ⊥) → eqb n (number x) ≡ false
+      other n = ne-eqb n (number x)
+
+      by : (c : Checked) → checkTwo s ≡ c → NumberSays x s ⊎ ((k : ℕ) × ComesTo s k × NumberSays x (fromPair s k))
+      by Fine fine =
+          let p = pair-so x (other 10 (λ z. omega arith)) (other 63 (λ z. omega arith)) fine (sym (ap (λ (y : Checked). y then none then pairs then behind) fine) ∙ e) in
+          inr (p .0, p .1, pair-two-so (fromPair s (p .0)) x (other 64 (λ z. omega arith)) (p .2))
+      by (No r at) q = inl (two-so s x (q ∙ sym (ap (λ (y : Checked). y then none then pairs then behind) q) ∙ e))
+
+  pub so-number : (x : Refusal) → NumberSays x s ⊎ ((k : ℕ) × ComesTo s k × NumberSays x (fromPair s k)) → checkSummary s ≡ No x nowhere
+  unfolding checkSummary _then_
+  so-number x =
+      ⊎-elim (λ (e : NumberSays x s). ap (λ (y : Checked). y then none then pairs then behind) (so-two s x e))
+      (λ (e : (k : ℕ) × ComesTo s k × NumberSays x (fromPair s k)). so-pair x (e .0) (e .1) (so-pair-two (fromPair s (e .0)) x (e .2)))
 
   summary-unsaid : (x : Refusal) → isIn (number x) summaryNumbers ≡ false → Unsaid x (checkSummary s)
   summary-unsaid = only-unsaid summaryNumbers (checkSummary s) summary-says

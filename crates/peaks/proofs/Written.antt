@@ -11,6 +11,10 @@ use Rattle.peaks.specs.declared.pass.Pass.{Pass}
 use Rattle.peaks.specs.declared.pass.Pass.the-variants.{Measure, Write, Compare}
 use Rattle.peaks.specs.declared.pass.Passed.the-variants.{On, Stopped}
 
+-- the place behind its k bytes
+pub has-end : (at k : ℕ) (b : List ℕ) → at + length b < 2 ^ 64 → k ≡ length b → at + k < 2 ^ 64
+has-end at k b l e = rw e l
+
 module _ (pass : Pass) (at : ℕ) (b held : List ℕ) where
   pub measured : pass ≡ Measure → (k : ℕ) → k ≡ length b → On (at + k) ≡ found pass at b held
   measured p k e = rw (p, e)

@@ -17,7 +17,7 @@ fn greater(x: i32, y: i32) -> i32
     if x <= y { y } else { x }
 }
 
-// Of the first n samples, of which there is one.
+// Of the first n samples, of which there is at least one.
 pub fn peak_of(run: [i32; 512], n: usize) -> Peak
     requires { ⌜ (0 < n) × (n ≤ 512) ⌝ }
     ensures { λ r. ⌜ r ≡ peakOf (take n run) ⌝ }

@@ -60,7 +60,7 @@ pub fn build_peaks(file: &[u8], out: &mut [u8]) -> Answer
     Answer::of(Outcome::Wrote(n as u64))
 }
 
-// Whether the bytes are the summary of that file: yes, no at the first byte that is another, or the refusal.
+// Whether the bytes are the summary of that file: yes, no at the first number that is another, or the refusal.
 pub fn compare_peaks(summary: &[u8], file: &[u8]) -> Answer
     ensures { λ r. ⌜ ComparesPeaks (now (summary .entry)) (now (file .entry)) r ⌝ }
 {

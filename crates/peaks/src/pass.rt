@@ -16,7 +16,7 @@ pub enum Pass {
     Compare,
 }
 
-// The place behind what it went over; or a byte that is held was another, and it stopped.
+// The place behind what it went over; or it stopped: what is held there is another number, or ends.
 pub enum Passed {
     On(usize),
     Stopped,
@@ -42,14 +42,16 @@ pub fn pass_number(pass: Pass, at: usize, n: u32, out: &mut [u8], held: &[u8]) -
     match pass {
         Pass::Measure => Passed::On(at + length_of(n)),
         Pass::Write => {
-            put(out, at, sevens_of(n));
-            Passed::On(at + length_of(n))
+            let w = sevens_of(n);
+            put(out, at, w);
+            Passed::On(at + w.len)
         }
         Pass::Compare => {
-            if stands(held, at, sevens_of(n)) {} else {
+            let w = sevens_of(n);
+            if stands(held, at, w) {} else {
                 return Passed::Stopped;
             }
-            Passed::On(at + length_of(n))
+            Passed::On(at + w.len)
         }
     }
 }

@@ -41,7 +41,7 @@ fn pass_two(
     pass_peak(pass, next, peak_of(a[1], n), out, held)
 }
 
-// Any number of channels, one at a time.
+// Any other number of channels, one at a time.
 fn pass_channels(
     pass: Pass,
     start: usize,

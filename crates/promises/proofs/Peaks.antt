@@ -1,42 +1,46 @@
 -- Document 02, L7: peaks beside the file. A summary that is built reads, at every group and channel, as the smallest and
 -- the largest of that channel's active samples; checking says yes exactly where the bytes are what building gives; two
--- summaries that read alike are equal; all pairs at once are each of them; what is refused by 66, 67 and 50; and that a
--- summary is short.
+-- summaries that read alike are equal; all pairs at once are each of them; what is refused by 66, 67 and 50; what is no
+-- summary, by which number; and that a summary is short.
 use Prim.Native.Nat.{ℕ, _+_, _-_, _*_, _/_, _%_, _^_, _≤_, _<_}
 use mathlib.Core.Path.{_≡_, refl, sym, ap, ap₂, _∙_, subst}
-use mathlib.Core.Bool.{Bool, true}
+use mathlib.Core.Bool.{Bool, true, false}
 use mathlib.Core.List.{List, [], _∷_}
 use mathlib.Core.Logic.{_⊎_}
 use native.Mathlib.Omega.{arith}
 use lib.ListN.{length, take, getD}
 use lib.Seq.{getD-take}
 use lib.IntN.{ℤ, pos}
+use lib.Signed.{leZ}
 use lib.Arith.{digits-lt}
 use lib.Dec.{eqb}
+use borrow.Author.Tests.{eqb-false, ne-eqb}
 use Rattle.format.specs.Lists.{from, over, same}
 use Rattle.format.specs.Numbers.{Below}
 use Rattle.format.specs.Header.{fieldsOf, groupsOf, groupBytes}
 use Rattle.format.specs.Units.{active}
-use Rattle.format.specs.Refusals.{nowhere}
+use Rattle.format.specs.Refusals.{number, nowhere}
 use Rattle.format.specs.Answers.{answeredBy, refusedBy, answered, read, wrote}
 use Rattle.format.specs.Opening.{formatOf}
 use Rattle.format.specs.Decoding.{isFloat, channelsOf, checkDecode, decodedOf}
-use Rattle.format.specs.Peaks.{peakAt, summaryOf, checkPeaks, checkPeaksInto, verdict, comparePeaksOf, buildPeaksOf, summaryFrames, summaryChannels, pairCount, pairNumber, fromPair, pairOf, checkSummary, checkPeak, readPeakOf, pairsRead}
-use Rattle.format.specs.Boundary.{sampleBytes, result, hostPeaks, hostPeak, hostPeaksCheck}
+use Rattle.format.specs.Peaks.{peakAt, summaryOf, checkPeaks, checkPeaksInto, verdict, comparePeaksOf, buildPeaksOf, summaryFrames, summaryChannels, pairCount, pairNumber, fromPair, pairOf, checkTwo, checkPair, checkSummary, checkPeak, checkAllPeaks, readPeakOf, readPeaksOf, pairsRead}
+use Rattle.format.specs.Boundary.{sampleBytes, result, hostPeaks, hostPeak, hostPeaksAll, hostPeaksCheck}
 use Rattle.format.specs.Promises.{Decodes, BuildsPeaks, ComparesPeaks, ReadsPeak, ReadsPeaks, HostBuildsPeaks, HostComparesPeaks, HostReadsPeak, HostReadsPeaks}
 use Rattle.format.specs.declared.refusals.Refusal.{Refusal}
-use Rattle.format.specs.declared.refusals.Refusal.the-variants.{OutputTooShort, FloatFile, PairPastEnd}
+use Rattle.format.specs.declared.refusals.Refusal.the-variants.{ZeroChannels, OutputTooShort, BytesBehind, PeaksCrossed, FloatFile, PairPastEnd}
 use Rattle.format.specs.declared.refusals.Place.{Place}
 use Rattle.format.specs.declared.refusals.Checked.{Checked}
-use Rattle.format.specs.declared.refusals.Checked.the-variants.{Fine}
+use Rattle.format.specs.declared.refusals.Checked.the-variants.{Fine, No}
 use Rattle.format.specs.declared.units.Frames.{Frames}
 use Rattle.format.specs.declared.answers.Outcome.the-variants.{Read, Wrote, Matches, Differs}
 use Rattle.format.specs.declared.answers.Answer.{Answer}
 use Rattle.laws.proofs.Parts.{from-take}
 use Rattle.laws.proofs.Checks.{first-fine}
+use Rattle.laws.proofs.Chain.{room-enough}
 use Rattle.laws.proofs.Extremes.{AtMost, IsExtreme}
 use Rattle.laws.proofs.Opened.{blocks-take}
-use Rattle.laws.proofs.Summaries.{alike-equal, number-within, passed-within, other-pair, other-pairs, pair-other, pair-past-so, pair-short-so, pairs-other, pairs-short-so, so-pair-past, so-pair-short, so-pairs-short, summary-most}
+use Rattle.laws.proofs.Summaries.{alike-equal, number-within, passed-within, other-pair, other-pairs, pair-other, pair-past-so, pair-short-so, pairs-other, pairs-short-so, pairs-within, so-pair-past, so-pair-short, so-pairs-short, summary-most}
+use Rattle.laws.proofs.Summaries.{NumberSays, ComesTo, no-channels-so, so-no-channels, bytes-behind-so, so-bytes-behind, crossed-so, so-crossed, number-so, so-number}
 use Rattle.laws.proofs.Marks.{same-equal, same-itself}
 use Rattle.promises.proofs.Outcomes.{Exactly, read-count, samples-read, host-number}
 use Rattle.promises.proofs.Certain.{refused-exactly, build-short}
@@ -202,6 +206,17 @@ host-check-says-no b s r e = (
   λ q. e ∙ ap (λ (a : Answer). result (a .outcome)) (check-says-no b s (comparePeaksOf b s) refl .1 q),
 )
 
+-- what building wrote gets a 1 there, and nothing else does
+pub host-check-is-building : (b s out built : List ℕ) (n r : ℕ)
+    → HostBuildsPeaks s out n built
+    → n < 2 ^ 63
+    → HostComparesPeaks b s r
+    → Exactly (r ≡ 1) (b ≡ take n built)
+host-check-is-building b s out built n r d short e =
+    let q = host-check-says-yes b s r e in
+    let w = host-built s out built n d short in
+    (λ y. q .0 y .1 ∙ sym (w .1), λ y. q .1 (w .0, y ∙ w .1))
+
 -- ---- ONE SUMMARY FOR WHAT IS READ
 
 -- two summaries of as many frames and channels, with the same pairs, are equal
@@ -270,19 +285,35 @@ pub all-reads-each : (s : List ℕ) (g c : ℕ) (lent after lent′ after′ : L
     → r ≡ read 2
 all-reads-each s g c lent after lent′ after′ m r d l k room e = pair-reads s g c lent′ after′ r e (pairs-fine s lent after m d) l k room .0
 
--- and both refuse alike, but for the pair that is past the end and for want of room
+-- a summary is read: one pair of it, or all of them
+pub data ReadsSummary (s : List ℕ) (r : Answer) : Type 0 where
+  OnePair : (g c : ℕ) (lent after : List ℤ) → ReadsPeak s g c lent r after → ReadsSummary s r
+  AllPairs : (lent after : List ℤ) → ReadsPeaks s lent r after → ReadsSummary s r
+
+-- either way, what is refused is what the summary's checks refuse, but for 67 and 50
+summary-refused : (s : List ℕ) (r : Answer) (x : Refusal) (at : Place)
+    → (x ≡ PairPastEnd → ⊥)
+    → (x ≡ OutputTooShort → ⊥)
+    → ReadsSummary s r
+    → Exactly (r ≡ refusedBy x at) (checkSummary s ≡ No x at)
+summary-refused s r x at inside roomy (OnePair g c lent after d) =
+    let q = refused-exactly .reads-peak s g c lent after r x at d in
+    (λ e. pair-other s g c (length lent) x at inside roomy (q .0 e), λ e. q .1 (other-pair s g c (length lent) x at e))
+summary-refused s r x at inside roomy (AllPairs lent after d) =
+    let q = refused-exactly .reads-peaks s lent after r x at d in
+    (λ e. pairs-other s (length lent) x at roomy (q .0 e), λ e. q .1 (other-pairs s (length lent) x at e))
+
+-- so both refuse alike, but for the pair that is past the end and for want of room
 pub all-refuses-as-each : (s : List ℕ) (g c : ℕ) (lent after lent′ after′ : List ℤ) (r r′ : Answer) (x : Refusal) (at : Place)
     → (x ≡ PairPastEnd → ⊥)
     → (x ≡ OutputTooShort → ⊥)
     → ReadsPeaks s lent r after
     → ReadsPeak s g c lent′ r′ after′
     → Exactly (r ≡ refusedBy x at) (r′ ≡ refusedBy x at)
-all-refuses-as-each s g c lent after lent′ after′ r r′ x at other roomy d e =
-    let p = refused-exactly .reads-peaks s lent after r x at d in
-    let q = refused-exactly .reads-peak s g c lent′ after′ r′ x at e in (
-      λ y. q .1 (other-pair s g c (length lent′) x at (pairs-other s (length lent) x at roomy (p .0 y))),
-      λ y. p .1 (other-pairs s (length lent) x at (pair-other s g c (length lent′) x at other roomy (q .0 y))),
-    )
+all-refuses-as-each s g c lent after lent′ after′ r r′ x at inside roomy d e =
+    let p = summary-refused s r x at inside roomy (AllPairs lent after d) in
+    let q = summary-refused s r′ x at inside roomy (OnePair g c lent′ after′ e) in
+    (λ y. q .1 (p .0 y), λ y. p .1 (q .0 y))
 
 -- ---- 66, 67 AND 50
 
@@ -371,6 +402,53 @@ host-pair-past-end-exactly s g c lent after r d =
       λ e. d .0 ∙ ap (λ (y : Checked). result (answered y o .outcome)) (so-pair-past s g c (length lent / 4) (e .0) (e .1)),
     )
 
+-- ---- WHAT NO SUMMARY IS: 10, 63, 64, AND 60 TO 62
+
+-- a refusal of another number than 67 and 50
+not-numbered : (x y : Refusal) → eqb (number x) (number y) ≡ false → x ≡ y → ⊥
+not-numbered x y f e = let z = eqb-false (number x) (number y) f in z (ap number e)
+
+by-number : (s : List ℕ) (r : Answer) (x : Refusal) → eqb (number x) 67 ≡ false → eqb (number x) 50 ≡ false → ReadsSummary s r
+    → Exactly (r ≡ refusedBy x nowhere) (checkSummary s ≡ No x nowhere)
+by-number s r x p q = summary-refused s r x nowhere (not-numbered x PairPastEnd p) (not-numbered x OutputTooShort q)
+
+-- 10 exactly where the numbers of frames and of channels pass, and there are no channels
+pub no-channels-exactly : (s : List ℕ) (r : Answer)
+    → ReadsSummary s r
+    → Exactly (r ≡ refusedBy ZeroChannels nowhere) ((checkTwo s ≡ Fine) × (summaryChannels s ≡ 0))
+no-channels-exactly s r d =
+    let q = by-number s r ZeroChannels refl refl d in
+    (λ e. no-channels-so s (q .0 e), λ e. q .1 (so-no-channels s (e .0) (e .1)))
+
+-- 63 exactly where both pass, there are channels, every pair passes, and bytes are left behind the last one
+pub bytes-behind-exactly : (s : List ℕ) (r : Answer)
+    → ReadsSummary s r
+    → Exactly (r ≡ refusedBy BytesBehind nowhere)
+    ((checkTwo s ≡ Fine) × (1 ≤ summaryChannels s) × ((k : ℕ) → k < pairCount s → checkPair (fromPair s k) ≡ Fine) × (1 ≤ length (fromPair s (pairCount s))))
+bytes-behind-exactly s r d =
+    let q = by-number s r BytesBehind refl refl d in
+    (λ e. bytes-behind-so s (q .0 e), λ e. q .1 (so-bytes-behind s (e .0) (e .1) (e .2) (e .3)))
+
+-- 64 exactly where some pair is come to, its two numbers pass, and its largest is below its smallest
+pub crossed-exactly : (s : List ℕ) (r : Answer)
+    → ReadsSummary s r
+    → Exactly (r ≡ refusedBy PeaksCrossed nowhere)
+    ((k : ℕ) × ComesTo s k × (checkTwo (fromPair s k) ≡ Fine) × (leZ (pairOf (fromPair s k) .smallest) (pairOf (fromPair s k) .largest) ≡ false))
+crossed-exactly s r d =
+    let q = by-number s r PeaksCrossed refl refl d in
+    (λ e. crossed-so s (q .0 e), λ e. q .1 (so-crossed s (e .0) (e .1) (e .2) (e .3)))
+
+-- 60, 61 and 62 exactly where the first number that does not pass says so: one of the two before the pairs, or one of
+-- the two of a pair that is come to
+pub number-exactly : (s : List ℕ) (r : Answer) (x : Refusal)
+    → 60 ≤ number x
+    → number x ≤ 62
+    → ReadsSummary s r
+    → Exactly (r ≡ refusedBy x nowhere) (NumberSays x s ⊎ ((k : ℕ) × ComesTo s k × NumberSays x (fromPair s k)))
+number-exactly s r x l m d =
+    let q = by-number s r x (ne-eqb (number x) 67 (λ z. omega arith)) (ne-eqb (number x) 50 (λ z. omega arith)) d in
+    (λ e. number-so s x l m (q .0 e), λ e. q .1 (so-number s x e))
+
 -- ---- A SUMMARY IS SHORT
 
 -- at most ten bytes a pair, and ten more
@@ -387,3 +465,31 @@ pub summary-is-an-eighth : (s lent after : List ℕ) (n : ℕ)
 unfolding checkDecode
 summary-is-an-eighth s lent after n d =
     omega (arith, summary-is-short s lent after n d, blocks-take s (first-fine _ _ (peaks-decode s (built-fine s lent after n d))))
+
+-- a pair takes at least two: no more samples are read than the summary has bytes
+pub pairs-take-two : (s : List ℕ) (lent after : List ℤ) (n : ℕ)
+    → ReadsPeaks s lent (read n) after
+    → n ≤ length s
+pairs-take-two s lent after n d = omega (arith, pairs-count s lent after n d, pairs-within s (pairs-fine s lent after n d))
+
+-- so where a summary passes, as much room in samples as it has bytes is enough for all pairs
+pub summary-is-room : (s : List ℕ) (lent after : List ℤ) (r : Answer)
+    → checkSummary s ≡ Fine
+    → length s ≤ length lent
+    → ReadsPeaks s lent r after
+    → r ≡ read (2 * pairCount s)
+unfolding readPeaksOf checkAllPeaks
+summary-is-room s lent after r fine room d =
+    let e = room-enough (checkSummary s) fine (length lent) (2 * pairCount s) OutputTooShort (omega (arith, pairs-within s fine)) in
+    d .0 ∙ ap (λ (k : Checked). answered k (Read (pairsRead (pairCount s)))) e
+
+-- at the host boundary four times as many bytes
+pub host-summary-is-room : (s lent after : List ℕ) (r : ℕ)
+    → checkSummary s ≡ Fine
+    → 4 * length s ≤ length lent
+    → HostReadsPeaks s lent r after
+    → r ≡ 4 * (2 * pairCount s)
+unfolding hostPeaksAll readPeaksOf checkAllPeaks
+host-summary-is-room s lent after r fine room d =
+    let e = room-enough (checkSummary s) fine (length lent / 4) (2 * pairCount s) OutputTooShort (omega (arith, pairs-within s fine)) in
+    d .0 ∙ ap (λ (k : Checked). result (answered k (Read (pairsRead (pairCount s))) .outcome)) e

@@ -386,13 +386,15 @@ module _ (s : List ℕ) where
   unfolding checkPeaksInto
   check-table x at e = build-table (length (summaryOf s)) x at (room-passes (checkPeaks s) (length (summaryOf s)) (length (summaryOf s)) OutputTooShort (omega arith) ∙ e)
 
+  check-first : (x : Refusal) (at : Place) → checkPeaks s ≡ No x at → checkOpen s ≡ Fine → (x ≡ FloatFile → ⊥) → First (groupRead s) (blockRead s) x at
+  unfolding checkPeaks checkDecode
+  check-first x at e opens other =
+      let decoded = said-before x at (checkDecode s) _ (λ l q. other (refused-so _ FloatFile x l q .1)) e in
+      groups-first (fieldsOf s .channels) (blockRead s) (size s) (groupRead s) read-group x at (sym (opens and-then refl) ∙ decoded)
+
   build-first : (room : ℕ) (x : Refusal) (at : Place) → checkPeaksInto s room ≡ No x at → checkOpen s ≡ Fine → (x ≡ OutputTooShort → ⊥) → (x ≡ FloatFile → ⊥) → First (groupRead s) (blockRead s) x at
-  unfolding checkPeaksInto checkPeaks _then_
-  build-first room x at e opens roomy other =
-      let float = refuse (isFloat (formatOf s (fieldsOf s))) FloatFile in
-      let a = said-before x at (checkDecode s then float) _ (λ l q. roomy (refused-so _ OutputTooShort x l q .1)) e in
-      let b = said-before x at (checkDecode s) float (λ l q. other (refused-so _ FloatFile x l q .1)) a in
-      decode-first 0 x at (ap (λ (k : Checked). k then checkRoom s 0) b) opens roomy
+  unfolding checkPeaksInto
+  build-first room x at e opens roomy other = check-first x at (said-before x at (checkPeaks s) _ (λ l q. roomy (refused-so _ OutputTooShort x l q .1)) e) opens other
 
   -- a step: of the group alone, where there is one
   module _ (g room : ℕ) where
@@ -582,6 +584,14 @@ pub first-builds-peaks : (s lent after : List ℕ) (x : Refusal) (at : Place)
     → (x ≡ FloatFile → ⊥)
     → First (groupRead s) (blockRead s) x at
 first-builds-peaks s lent after x at d = build-first s (length lent) x at (refused-exactly .builds-peaks s lent after (refusedBy x at) x at d .0 refl)
+
+-- where checking a summary opens the file and refuses, not a float file, it names the first
+pub first-compares-peaks : (b s : List ℕ) (x : Refusal) (at : Place)
+    → ComparesPeaks b s (refusedBy x at)
+    → checkOpen s ≡ Fine
+    → (x ≡ FloatFile → ⊥)
+    → First (groupRead s) (blockRead s) x at
+first-compares-peaks b s x at d = check-first s x at (refused-exactly .compares-peaks b s (refusedBy x at) x at d .0 refl)
 
 -- where re-encoding comes to the template's groups and refuses, not for want of room, it names the first
 pub first-reencodes : (p : PcmSpec) (s : List ℤ) (t lent after : List ℕ) (x : Refusal) (at : Place)

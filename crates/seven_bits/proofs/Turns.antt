@@ -6,11 +6,11 @@ use mathlib.Core.List.{List, [], _∷_, _++_}
 use native.Mathlib.Decide.{decLt}
 use native.Mathlib.Numerals.{add-one}
 use native.Mathlib.Omega.{arith}
-use lib.ListN.{length, getD, set, take, drop, length-take, length-drop, drop-of-length-le}
-use lib.Seq.{sets, take-suc, take-suc-set, length-take-le, getD-take, getD-drop}
+use lib.ListN.{length, getD, set, take, drop, replicate, length-set, length-take, length-drop, drop-of-length-le, take-append-drop}
+use lib.Seq.{sets, take-suc, take-suc-set, length-take-le, drop-drop, getD-take, getD-drop}
 use lib.Dec.{ltb, eqb}
 use borrow.Author.Tests.{lt-ltb, le-ltb, eq-eqb, ne-eqb, eqb-true}
-use Rattle.format.specs.Lists.{from, same}
+use Rattle.format.specs.Lists.{from, over, same}
 use Rattle.format.specs.Numbers.{num}
 use Rattle.format.specs.SevenBits.{sevenIn, seven, marked, sevenLength, sevenValue, checkSeven}
 use Rattle.format.specs.Refusals.{nowhere, refuse}
@@ -19,9 +19,10 @@ use Rattle.format.specs.declared.refusals.Checked.{Checked}
 use Rattle.format.specs.declared.refusals.Checked.the-variants.{Fine, No}
 use Rattle.laws.proofs.Chain.{stop, stop-then, pass, pass-then, and-both, first-no}
 use Rattle.laws.proofs.Tests.{never, and-right, and-no}
-use Rattle.laws.proofs.Parts.{left-now, done-more, length-from}
+use Rattle.laws.proofs.Parts.{left-now, done-more, left-more, length-from}
 use Rattle.laws.proofs.Over.{sets-join}
 use Rattle.laws.proofs.SevenBits.{in-last, in-more, fine-long}
+use Rattle.seven_bits.specs.Bytes.{sevensOf}
 use Rattle.seven_bits.proofs.Laws.{bytes-length, lows, value-lows, lows-at, lows-length, rest-lt}
 
 -- ---- bytes with the high bit set: k of them are passed, of m
@@ -148,12 +149,16 @@ left-room k r l h b =
       | no p ↦ let e : k ≡ 4 = omega arith in let q : r < 16 = rw e at h in absurd (omega arith)
     ]
 
+-- the bytes from k on are zero
+pub zeros-turn : (bs : List ℕ) (k x : ℕ) → drop k bs ≡ drop k (replicate 5 0) → drop (k + 1) (set bs k x) ≡ drop (k + 1) (replicate 5 0)
+zeros-turn bs k x none = left-more bs k x ∙ sym (drop-drop 1 k bs) ∙ ap (drop 1) none ∙ drop-drop 1 k (replicate 5 0)
+
 pub group-start : (n : ℕ) (bs : List ℕ) → seven n ≡ take 0 bs ++ sevenIn (4 - 0) n
 unfolding seven
 group-start n bs = refl
 
-module _ (w bs : List ℕ) (k r : ℕ) (long : length bs ≡ 5) (so-far : w ≡ take k bs ++ sevenIn (4 - k) r) where
-  pub group-turn : k < 4 → 128 ≤ r → w ≡ take (k + 1) (set bs k (128 + r % 128)) ++ sevenIn (4 - (k + 1)) (r / 128)
+module _ (n : ℕ) (bs : List ℕ) (k r : ℕ) (long : length bs ≡ 5) (so-far : seven n ≡ take k bs ++ sevenIn (4 - k) r) where
+  pub group-turn : k < 4 → 128 ≤ r → seven n ≡ take (k + 1) (set bs k (128 + r % 128)) ++ sevenIn (4 - (k + 1)) (r / 128)
   group-turn l h =
       let e : 4 - k ≡ suc (4 - (k + 1)) = omega arith in
       so-far
@@ -161,8 +166,20 @@ module _ (w bs : List ℕ) (k r : ℕ) (long : length bs ≡ 5) (so-far : w ≡ 
       ∙ ap (λ (t : List ℕ). take k bs ++ t) (in-more (4 - (k + 1)) r h)
       ∙ sym (done-more bs (sevenIn (4 - (k + 1)) (r / 128)) k (128 + r % 128) (omega arith))
 
-  pub group-last : k ≤ 4 → r < 128 → take (k + 1) (set bs k r) ≡ w
-  group-last l h = rw add-one (take-suc-set bs k r (omega arith) ∙ ap (λ (t : List ℕ). take k bs ++ t) (sym (in-last (4 - k) r h)) ∙ sym so-far)
+  module _ (few : k ≤ 4) (last : r < 128) where
+    group-last : take (k + 1) (set bs k r) ≡ seven n
+    group-last =
+        rw add-one (take-suc-set bs k r (omega arith) ∙ ap (λ (t : List ℕ). take k bs ++ t) (sym (in-last (4 - k) r last)) ∙ sym so-far)
+
+    group-length : k + 1 ≡ length (seven n)
+    group-length = sym (length-take-le (k + 1) (set bs k r) (omega (arith, length-set bs k r))) ∙ ap length group-last
+
+    pub group-done : drop k bs ≡ drop k (replicate 5 0) → record { bytes = set bs k r; len = k + 1 } ≡ sevensOf n
+    unfolding over
+    group-done none =
+        let rest = zeros-turn bs k r none ∙ ap (λ (j : ℕ). drop j (replicate 5 0)) group-length in
+        let all : set bs k r ≡ over (seven n) (replicate 5 0) = sym (take-append-drop (k + 1) (set bs k r)) ∙ ap₂ _++_ group-last rest in
+        ap₂ (λ (b : List ℕ) (m : ℕ). record { bytes = b; len = m }) all group-length
 
 -- ---- the groups into lent bytes, k so far
 

@@ -1,11 +1,11 @@
 // A number as bytes: by value, put into what is lent, and compared with what stands there.
 ghost use mathlib.Core.Path.{_≡_};
 ghost use Prim.Native.Nat.{_+_, _≤_, _<_, _^_};
-ghost use lib.ListN.{length, take};
+ghost use lib.ListN.{length};
 ghost use lib.Seq.{sets};
 ghost use Rattle.format.specs.Lists.{from, same};
 ghost use Rattle.format.specs.SevenBits.{seven};
-ghost use Rattle.seven_bits.specs.Bytes.{bytesOf, Short};
+ghost use Rattle.seven_bits.specs.Bytes.{sevensOf, bytesOf, Short};
 
 // A number in its groups: the first `len` of the bytes.
 pub struct Sevens {
@@ -32,9 +32,9 @@ pub fn length_of(n: u32) -> usize
     5
 }
 
-// n in its groups.
+// n in its groups; the bytes behind them are 0.
 pub fn sevens_of(n: u32) -> Sevens
-    ensures { λ r. ⌜ (Short r) × (bytesOf r ≡ seven n) ⌝ }
+    ensures { λ r. ⌜ r ≡ sevensOf n ⌝ }
 {
     let mut bytes = [0u8; 5];
     let mut rest = n;

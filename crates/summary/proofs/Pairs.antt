@@ -1,5 +1,5 @@
 -- Where the pairs of a summary begin, and what their checks say.
-use Prim.Native.Nat.{ℕ, zero, suc, _+_, _-_, _*_, _≤_, _<_}
+use Prim.Native.Nat.{ℕ, _+_, _-_, _≤_, _<_}
 use mathlib.Core.Path.{_≡_, sym, ap, _∙_}
 use mathlib.Core.Bool.{not}
 use mathlib.Core.List.{List}
@@ -19,10 +19,11 @@ use Rattle.format.specs.declared.refusals.Refusal.the-variants.{BytesBehind}
 use Rattle.format.specs.declared.refusals.Place.{Place}
 use Rattle.format.specs.declared.refusals.Checked.{Checked}
 use Rattle.format.specs.declared.refusals.Checked.the-variants.{Fine, No}
-use Rattle.laws.proofs.Checks.{first-fine, others-fine, order-fine}
+use Rattle.laws.proofs.Checks.{first-fine}
 use Rattle.laws.proofs.Reading.{order-stops, order-more}
 use Rattle.laws.proofs.Chain.{stop, pass, passes-on, not-yes, not-no}
-use Rattle.summary.proofs.Twos.{part, two-long}
+use Rattle.laws.proofs.Summaries.{each-two}
+use Rattle.summary.proofs.Twos.{part}
 
 -- pair k begins at that place
 pub record Begins (s : List ℕ) (k at : ℕ) : Type 0 where
@@ -103,24 +104,6 @@ module _ (s : List ℕ) (count k at : ℕ) (b : Begins s k at) (fine : inOrder (
         passes-on (inOrder (pairAt s) k) (inOrder (pairAt s) count) (ap (inOrder (pairAt s)) all) _ _ fine
         (pass BytesBehind _ (not-yes _ (eq-eqb (length (fromPair s count)) 0 none)))
 
--- ---- a summary whose checks pass
-module _ (s : List ℕ) (fine : checkSummary s ≡ Fine) where
-  pub summary-two : checkTwo s ≡ Fine
-  unfolding checkSummary
-  summary-two = first-fine _ _ fine
-
-  each-two : (k : ℕ) → k < pairCount s → checkTwo (fromPair s k) ≡ Fine
-  unfolding checkSummary checkPair
-  each-two k l = first-fine _ _ (order-fine (pairAt s) k (pairCount s) l (first-fine _ _ (others-fine _ _ (others-fine (checkTwo s) _ fine))))
-
-  pub part-two : (k at : ℕ) → Begins s k at → k < pairCount s → checkTwo (part at s) ≡ Fine
-  part-two k at b l = ap checkTwo (part-is s k at b) ∙ each-two k l
-
-  -- each pair takes two bytes at least
-  pairs-long : (k : ℕ) → k ≤ pairCount s → 2 * k + length (fromPair s k) ≤ length s
-  unfolding fromPair
-  pairs-long zero l = omega (arith, two-long s summary-two)
-  pairs-long (suc k) l = omega (arith, pairs-long k (omega arith), two-long (fromPair s k) (each-two k (omega arith)))
-
-  pub pairs-within : 2 * pairCount s ≤ length s
-  pairs-within = omega (arith, pairs-long (pairCount s) (omega arith))
+-- ---- where the checks of a summary pass
+pub part-two : (s : List ℕ) → checkSummary s ≡ Fine → (k at : ℕ) → Begins s k at → k < pairCount s → checkTwo (part at s) ≡ Fine
+part-two s fine k at b l = ap checkTwo (part-is s k at b) ∙ each-two s fine k l

@@ -22,7 +22,8 @@ use Rattle.format.specs.declared.refusals.Checked.the-variants.{Fine, No}
 use Rattle.laws.proofs.Chain.{stop, stop-then, pass, pass-then, stops-at, passes-on, not-yes, not-no, same-eqb, other-eqb}
 use Rattle.lent_samples.proofs.Taken.{leZ-ltZ}
 use Rattle.sample.proofs.Words.{given}
-use Rattle.summary.proofs.Pairs.{pairsSay, summary-two, pairs-within}
+use Rattle.laws.proofs.Summaries.{summary-two, pairs-within}
+use Rattle.summary.proofs.Pairs.{pairsSay}
 
 -- ---- a pair, and a summary: x is what its two numbers' checks say
 module _ (s : List ℕ) (x : Checked) (says : x ≡ checkTwo s) where

@@ -6,7 +6,6 @@ use native.Mathlib.Nat.{mul-le-mul}
 use native.Mathlib.Omega.{arith}
 use lib.ListN.{length, take, drop, length-drop}
 use lib.Seq.{drop-drop}
-use borrow.Author.Tests.{ltb-false}
 use borrow.Rule.Slice.PartAt.{part-to-end}
 use lib.IntN.{ℤ}
 use lib.Signed.{mag}
@@ -19,18 +18,14 @@ use Rattle.format.specs.declared.refusals.Refusal.{Refusal}
 use Rattle.format.specs.declared.refusals.Place.{Place}
 use Rattle.format.specs.declared.refusals.Checked.{Checked}
 use Rattle.format.specs.declared.refusals.Checked.the-variants.{Fine, No}
-use Rattle.laws.proofs.Checks.{passed, first-fine, others-fine}
+use Rattle.laws.proofs.Checks.{first-fine, others-fine}
 use Rattle.laws.proofs.Chain.{stops-at, passes-on}
+use Rattle.laws.proofs.SevenBits.{fine-long}
 use Rattle.sample.proofs.Words.{given}
 
 -- what lies from a place on, as it is lent
 abbrev pub part : ℕ → List ℕ → List ℕ
 part n s = take (length s - n) (drop n s)
-
--- a number whose checks pass lies within the bytes
-within : (s : List ℕ) → checkSeven s ≡ Fine → sevenLength s ≤ length s
-unfolding checkSeven
-within s e = ltb-false (length s) (sevenLength s) (passed _ _ (first-fine _ _ e))
 
 module _ (s : List ℕ) (n : ℕ) (long : n ≡ sevenLength s) where
   rest-is : part n s ≡ past s 1
@@ -40,7 +35,7 @@ module _ (s : List ℕ) (n : ℕ) (long : n ≡ sevenLength s) where
   -- k is what the first number's checks say
   module _ (k : Checked) (says : k ≡ checkSeven s) (fine : k ≡ Fine) where
     pub first-within : n ≤ length s
-    first-within = let l = within s (sym says ∙ fine) in omega arith
+    first-within = let l = fine-long s (sym says ∙ fine) in omega arith
 
     pub second-says : (x : Checked) → x ≡ checkSeven (part n s) → x ≡ checkTwo s
     unfolding checkTwo
@@ -62,7 +57,7 @@ module _ (s : List ℕ) (fine : checkTwo s ≡ Fine) where
 
   module _ (n : ℕ) (long : n ≡ sevenLength s) where
     pub starts-within : n ≤ length s
-    starts-within = let l = within s first-fine-of in omega arith
+    starts-within = let l = fine-long s first-fine-of in omega arith
 
     pub part-fine : checkSeven (part n s) ≡ Fine
     part-fine = ap checkSeven (rest-is s n long) ∙ second-fine
@@ -77,19 +72,12 @@ module _ (s : List ℕ) (fine : checkTwo s ≡ Fine) where
       pub two-within : n + m ≤ length s
       two-within =
           let l = starts-within in
-          let k : m ≤ length (part n s) = let w = within (part n s) part-fine in omega arith in
+          let k : m ≤ length (part n s) = let w = fine-long (part n s) part-fine in omega arith in
           omega (arith, ap length (part-to-end s n), length-drop n s)
 
       pub two-past : drop (n + m) s ≡ past s 2
       unfolding past
       two-past = sym (drop-drop m n s) ∙ ap₂ (λ (k : ℕ) (t : List ℕ). drop k t) second-long (ap (λ (k : ℕ). drop k s) long)
-
-  -- they take two bytes at least
-  pub two-long : length (past s 2) + 2 ≤ length s
-  unfolding past sevenLength
-  two-long =
-      let t = past s 1 in
-      omega (arith, within s first-fine-of, within t second-fine, length-drop (sevenLength s) s, length-drop (sevenLength t) t)
 
 -- ---- what they say
 

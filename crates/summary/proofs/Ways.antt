@@ -18,7 +18,7 @@ use Rattle.format.specs.declared.refusals.Checked.the-variants.{Fine, No}
 use Rattle.format.specs.declared.answers.Answer.{Answer}
 use Rattle.format.specs.declared.answers.Outcome.the-variants.{Read}
 use Rattle.laws.proofs.Checks.{passed, first-fine, others-fine, has-room}
-use Rattle.summary.proofs.Pairs.{summary-two, pairs-within}
+use Rattle.laws.proofs.Summaries.{summary-two, pairs-within}
 
 -- ---- a pair: k is what the checks say, n the room
 module _ (s : List ℕ) (g c n : ℕ) (k : Checked) (says : k ≡ checkPeak s g c n) where

@@ -3,7 +3,8 @@ use std::error::Error;
 use std::fmt;
 use std::io;
 
-/// Why a file was not opened or not decoded, samples were not encoded or not re-encoded, or peaks were not built or not read. [`Refused`](crate::Refused) tells where.
+/// Why a file was not opened or not decoded, samples were not encoded or not re-encoded, or peaks were not built or not read.
+/// [`Refused`](crate::Refused) tells where a file was not decoded or samples were not re-encoded.
 #[derive(Debug)]
 pub enum NcwError {
     /// The input or the template ends too soon (refusal 1, of the kind [`io::ErrorKind::UnexpectedEof`]), or reading the input

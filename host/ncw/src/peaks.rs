@@ -38,8 +38,8 @@ pub struct Peaks {
 impl Peaks {
     /// The peaks of a file in memory. What decoding refuses is refused, and then a float file, by 66.
     pub fn build(file: &[u8]) -> Result<Self, NcwError> {
-        // A block has 80 bytes or more, and a pair 10 or fewer: so much room is enough for any summary of so many pairs.
-        let mut bytes = vec![0; file.len() / 8 + 10];
+        // A header has 120 bytes and a block 80 or more, a pair 10 or fewer: so much room is enough for any summary of so many pairs.
+        let mut bytes = vec![0; file.len() / 8];
         let length = build_peaks_into(file, &mut bytes)?;
         bytes.truncate(length);
         bytes.shrink_to_fit();

@@ -1,12 +1,12 @@
--- The loop's invariant: k groups are written, what is left makes the others, and it fits fewer bits by seven each turn.
+-- The loop's invariant: k groups are written, zeros lie behind, and what is left makes the others, in ever fewer bits.
 use Prim.Native.Nat.{_-_, _*_, _^_, _≤_, _<_}
 use mathlib.Core.Path.{_≡_}
 use mathlib.Core.List.{_++_}
 use borrow.Author.Needs.{needs}
 use native.Mathlib.Omega.{arith}
-use lib.ListN.{length, take}
+use lib.ListN.{length, take, drop, replicate}
 use Rattle.format.specs.SevenBits.{sevenIn, seven}
-use Rattle.seven_bits.proofs.Turns.{left-less, left-room, group-start, group-turn, group-last}
+use Rattle.seven_bits.proofs.Turns.{left-less, left-room, zeros-turn, group-start, group-turn, group-done}
 use Rattle.seven_bits.proofs.writing.sevens_of.Statement.{statement}
 use Rattle.seven_bits.proofs.writing.sevens_of.Tie as tie
 
@@ -16,6 +16,7 @@ Inv-loop n bytes₀ rest₀ k₀ bytes rest k =
     × (length bytes ≡ 5)
     × (rest < 2 ^ (32 - 7 * k))
     × (seven n ≡ take k bytes ++ sevenIn (4 - k) rest)
+    × (drop k bytes ≡ drop k (replicate 5 0))
 
 abbrev μ-loop : tie.MeasureT-loop
 μ-loop n bytes₀ rest₀ k₀ bytes rest k = rest
@@ -30,10 +31,10 @@ loop-again : tie.Need-loop-again Inv-loop μ-loop
 loop-again c =
     let l = c .before .loop in
     let room : l .k < 4 = left-room (l .k) (l .rest) (l .inv .0) (l .inv .2) (omega arith) in
-    (omega arith, search needs, search (needs, left-less), search (needs, group-turn))
+    (omega arith, search needs, search (needs, left-less), search (needs, group-turn), search (needs, zeros-turn))
 
 returns : tie.Need-returns Inv-loop μ-loop
-returns c = search (needs, group-last)
+returns c = search (needs, group-done)
 
 pub sevens-of-spec : {M : Type 1} → statement M
 sevens-of-spec =

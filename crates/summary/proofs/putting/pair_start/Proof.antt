@@ -3,7 +3,8 @@ use mathlib.Core.Path.{_≡_}
 use Prim.Native.Nat.{_-_, _≤_}
 use native.Mathlib.Omega.{arith}
 use borrow.Author.Needs.{needs}
-use Rattle.summary.proofs.Pairs.{Begins, begins-first, more-within, begins-more, summary-two, part-two}
+use Rattle.laws.proofs.Summaries.{summary-two}
+use Rattle.summary.proofs.Pairs.{Begins, begins-first, more-within, begins-more, part-two}
 use Rattle.summary.proofs.putting.pair_start.Statement.{statement}
 use Rattle.summary.proofs.putting.pair_start.Tie as tie
 
