@@ -22,7 +22,7 @@ ghost use Rattle.format.specs.Promises.{HostOpens, HostDecodes, HostReadsFrames
 ghost use Rattle.format.specs.Promises.{HostBuildsPeaks, HostReadsPeak, HostReadsPeaks, HostComparesPeaks};
 ghost use Rattle.format.specs.Promises.{HostDecodeRefuses, HostReencodeRefuses};
 
-// The length in bytes (for opening, what decoding would write), 1 for yes and 0 for no, or 2^63 plus the refusal number.
+// The length in bytes (for opening, what decoding would write), 1 for yes, 0 for no, or 2^63 plus the refusal number.
 fn result(outcome: Outcome) -> u64
     requires { ⌜ ((n : Samples) → outcome ≡ Read n → 4 * n .0 < 2 ^ 64) ⌝ }
     ensures { λ r. ⌜ r ≡ result outcome ⌝ }
