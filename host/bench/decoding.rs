@@ -32,11 +32,18 @@ fn drop_in(file: &[u8]) -> Vec<i32> {
 
 /// Whether every side gives the samples.
 pub fn agree(input: &Input) -> Result<(), &'static str> {
+    agree_by(input, i32::eq)
+}
+
+/// The same, where the original's samples are held to these by `same`.
+pub fn agree_by(input: &Input, same: fn(&i32, &i32) -> bool) -> Result<(), &'static str> {
     let mut room = vec![0; input.samples.len()];
     let written = ours::decode_into(&input.file, &mut room).map_err(|_| "refused, into lent room")?;
+    let of_original = original(&input.file);
+    let alike = of_original.iter().zip(&input.samples).all(|(original, ours)| same(original, ours));
     let sides = [
         (written == room.len() && room == input.samples, "other samples in lent room"),
-        (original(&input.file) == input.samples, "other samples by the original"),
+        (of_original.len() == input.samples.len() && alike, "other samples by the original"),
         (drop_in(&input.file) == input.samples, "other samples by the drop-in"),
     ];
     sides.iter().find(|side| !side.0).map_or(Ok(()), |side| Err(side.1))

@@ -4,8 +4,8 @@ use crate::random::Random;
 use crate::rows::{Form, Row, Width};
 use ncw::{encode_pcm, PcmSpec, StereoMode, SAMPLES_PER_BLOCK};
 
-const RATE: u32 = 44_100;
-const SEED: u64 = 1;
+pub const RATE: u32 = 44_100;
+pub const SEED: u64 = 1;
 
 /// The width of side where it is narrow.
 const NARROW: i16 = 2;

@@ -1,4 +1,8 @@
-//! The Rust original and ours, timed in turns on the same files or samples: bench [encode|reencode|frames|peaks] [--short]
+//! The Rust original and ours, timed in turns on the same files or samples:
+//! bench [encode|reencode|frames|floats|peaks] [--short]
+#[allow(dead_code)]
+#[path = "../recorded/blocks.rs"]
+mod blocks;
 mod clock;
 mod decoding;
 mod encoding;
@@ -6,7 +10,10 @@ mod few_frames;
 #[allow(dead_code)]
 #[path = "../definitions/files.rs"]
 mod files;
+mod floats;
 mod input;
+#[path = "../definitions/nans.rs"]
+mod nans;
 mod peaks;
 #[allow(dead_code)]
 #[path = "../definitions/random.rs"]
@@ -68,9 +75,11 @@ fn main() {
         ["reencode", "--short"] | ["--short", "reencode"] => REENCODING.run(&SHORT),
         ["frames"] => few_frames::run(&ALL[1..]),
         ["frames", "--short"] | ["--short", "frames"] => few_frames::run(&SHORT),
+        ["floats"] => floats::WORK.run(&ALL),
+        ["floats", "--short"] | ["--short", "floats"] => floats::WORK.run(&SHORT),
         ["peaks"] => peaks::run(&ALL[1..]),
         ["peaks", "--short"] | ["--short", "peaks"] => peaks::run(&SHORT),
-        _ => stop("usage: bench [encode|reencode|frames|peaks] [--short]"),
+        _ => stop("usage: bench [encode|reencode|frames|floats|peaks] [--short]"),
     };
 }
 

@@ -21,6 +21,10 @@ pub enum Form {
     AutoDirect,
     /// Auto, where frames differ in parity.
     AutoOdd,
+    /// Mid/side in float, without NaNs.
+    Floats,
+    /// The same, with many.
+    FloatNans,
 }
 
 impl Form {
@@ -35,14 +39,14 @@ impl Form {
     pub fn mode(self) -> StereoMode {
         match self {
             Form::Mono | Form::Stereo => StereoMode::Direct,
-            Form::MidSide => StereoMode::MidSide,
+            Form::MidSide | Form::Floats | Form::FloatNans => StereoMode::MidSide,
             Form::AutoMidSide | Form::AutoDirect | Form::AutoOdd => StereoMode::Auto,
         }
     }
 
     /// Whether every group is mid/side.
     pub fn is_mid_side(self) -> bool {
-        matches!(self, Form::MidSide | Form::AutoMidSide)
+        matches!(self, Form::MidSide | Form::AutoMidSide | Form::Floats | Form::FloatNans)
     }
 
     fn name(self) -> &'static str {
@@ -53,6 +57,8 @@ impl Form {
             Form::AutoMidSide => "auto, mid/side",
             Form::AutoDirect => "auto, direct",
             Form::AutoOdd => "auto, odd",
+            Form::Floats => "float mid/side",
+            Form::FloatNans => "float mid/side, NaNs",
         }
     }
 }
@@ -77,6 +83,11 @@ const WIDTHS: [(u16, [Width; 6]); 2] = [
 /// Every row of one length that is decoded, or is a template.
 pub fn of_files(seconds: usize) -> Vec<Row> {
     of(&OF_FILES, seconds)
+}
+
+/// Every row of one length that is float.
+pub fn of_floats(seconds: usize) -> Vec<Row> {
+    [Form::Floats, Form::FloatNans].map(|form| Row { seconds, form, depth: 32, width: Width::Bits(32) }).into()
 }
 
 /// Every row of one length that is encoded.

@@ -1,4 +1,8 @@
 //! Questions, and what the Rust original answers.
+#[path = "nans.rs"]
+mod nans;
+
+use nans::{is_nan, settled};
 use ncw::{encode_pcm, encode_pcm_with_template, NcwError, NcwReader, PcmSpec, SampleFormat, StereoMode};
 use std::io::Cursor;
 
@@ -59,14 +63,23 @@ fn decode(file: &[u8]) -> Result<Answer, NcwError> {
     Ok(Answer::Samples(samples))
 }
 
-/// A NaN sum or difference is the machine's in the Rust: document 01 fixes its bits, and only there.
+/// A NaN sum or difference is the machine's in the Rust: document 02 says its bits, and only there. Mid and side are what
+/// the Rust reads once no group says that it is mid/side.
 fn settle_nans(file: &[u8], reader: &NcwReader<Cursor<&[u8]>>, samples: &mut [i32]) {
-    let groups = samples.chunks_mut(512 * usize::from(reader.header.channels));
-    for (group, offset) in groups.zip(&reader.block_offsets) {
-        let flags = reader.header.data_offset as usize + *offset as usize + 10;
-        if file[flags] & 1 == 1 {
-            let nans = group.iter_mut().filter(|s| f32::from_bits(**s as u32).is_nan());
-            nans.for_each(|s| *s = 0x7FC0_0000);
+    let mut direct = file.to_vec();
+    let mut sided = Vec::new();
+    for offset in &reader.block_offsets {
+        let flags = &mut direct[reader.header.data_offset as usize + *offset as usize + 10];
+        sided.push(*flags & 1 == 1);
+        *flags &= !1;
+    }
+    let read = NcwReader::read(Cursor::new(&direct[..])).and_then(|mut reader| reader.decode_samples());
+    let coded = read.expect("a file without mid/side is read where the file is");
+    let size = 512 * usize::from(reader.header.channels);
+    let groups = samples.chunks_mut(size).zip(coded.chunks(size)).zip(sided);
+    for ((group, coded), _) in groups.filter(|(_, sided)| *sided) {
+        for (frame, pair) in group.chunks_mut(2).zip(coded.chunks(2)) {
+            frame.iter_mut().filter(|s| is_nan(**s)).for_each(|s| *s = settled(pair[0], pair[1], f32::NAN));
         }
     }
 }

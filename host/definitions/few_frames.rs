@@ -1,6 +1,10 @@
 //! A few frames of a file, by documents 01 and 02 alone: each frame from its own group, each value bit by bit. Nothing here is the Rust original's.
 //! Any bytes may be asked about.
+#[path = "nans.rs"]
+mod nans;
+
 use crate::located::{self, number, Refused};
+use nans::settled;
 use std::ops::Range;
 
 /// What is read with room for so many samples: `count` frames from the frame `first` on, or what is refused.
@@ -133,18 +137,9 @@ fn left_and_right(blocks: Vec<Vec<i32>>, float: bool) -> Vec<Vec<i32>> {
             pairs().map(|(mid, side)| mid.wrapping_sub(side)).collect(),
         ],
         true => vec![
-            pairs().map(|(mid, side)| rounded(number(mid) + number(side))).collect(),
-            pairs().map(|(mid, side)| rounded(number(mid) - number(side))).collect(),
+            pairs().map(|(mid, side)| settled(mid, side, number(mid) + number(side))).collect(),
+            pairs().map(|(mid, side)| settled(mid, side, number(mid) - number(side))).collect(),
         ],
-    }
-}
-
-/// The bits of a sum or a difference; every NaN is written as one.
-fn rounded(result: f32) -> i32 {
-    if result.is_nan() {
-        0x7FC0_0000
-    } else {
-        result.to_bits() as i32
     }
 }
 
@@ -232,7 +227,8 @@ mod tests {
         assert_eq!(stereo(0, 0x40, 0x41), [0x4040_4040, 0x4141_4141]);
         let [mid, side] = [0x4040_4040, 0x4141_4141].map(f32::from_bits);
         assert_eq!(stereo(3, 0x40, 0x41), [mid + side, mid - side].map(|sum| sum.to_bits() as i32));
-        assert_eq!(stereo(3, 0xFF, 0x40), [0x7FC0_0000; 2]);
+        assert_eq!(stereo(3, 0xFF, 0x40), [-1; 2]);
+        assert_eq!(stereo(3, 0x40, 0xFF), [-1; 2]);
     }
 
     #[test]

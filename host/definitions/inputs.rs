@@ -305,12 +305,12 @@ fn run(width: u16, float: bool, random: &mut Random) -> Vec<u8> {
     }
 }
 
-/// Floats of near exponents, so that sums are rounded; zeros, subnormals, the greatest, infinities and a NaN.
+/// Floats of near exponents, so that sums are rounded; zeros, subnormals, the greatest, infinities and NaNs.
 fn pattern(random: &mut Random) -> u32 {
     let sign = (random.next() as u32) & 0x8000_0000;
     let fraction = (random.next() as u32) >> 9;
     let exponent = random.between(120, 130) as u32;
-    let edges = [0, 1, 0x007F_FFFF, 0x0080_0000, 0x7F7F_FFFF, 0x7F80_0000, 0x7FC0_0001, fraction];
+    let edges = [0, 1, 0x007F_FFFF, 0x0080_0000, 0x7F7F_FFFF, 0x7F80_0000, 0x7F80_0001 | fraction, fraction];
     sign | if random.once_in(3) { random.pick(&edges) } else { exponent << 23 | fraction }
 }
 

@@ -1,5 +1,5 @@
 //! The cases: document 01's own, what a reader has to tell apart, every refusal, and some drawn from a seed.
-use crate::asking::{ask, Answer, Question};
+use crate::asking::Question;
 use crate::blocks::{at_depth, differences, file, filled, flagged, noise, raw};
 use crate::faults::{put, set_end};
 use crate::files::{Block, File};
@@ -163,28 +163,37 @@ fn patterns() -> Vec<i32> {
     numbers.iter().chain(&edges).flat_map(|bits| [*bits as i32, (*bits | 0x8000_0000) as i32]).collect()
 }
 
-/// Pairs whose sum and difference are numbers or infinities.
-fn settled_pairs() -> Vec<(i32, i32)> {
-    let number = |bits: i32| f32::from_bits(bits as u32);
-    let settled = |m: i32, s: i32| !(number(m) + number(s)).is_nan() && !(number(m) - number(s)).is_nan();
-    let all = patterns().into_iter().flat_map(|m| patterns().into_iter().map(move |s| (m, s)));
-    all.filter(|(m, s)| settled(*m, *s)).collect()
+/// NaNs: quiet and signalling, with the least payload, with all of it, with another; with either sign.
+fn nans() -> Vec<i32> {
+    let bits = [0x7F80_0001, 0x7FBF_FFFF, 0x7F81_2345, 0x7FC0_0000, 0x7FFF_FFFF, 0x7FC1_2345];
+    bits.iter().flat_map(|bits| [*bits, *bits | i32::MIN]).collect()
 }
 
-/// Mid and side in float, every pair of patterns.
-pub fn float_pairs() -> File {
-    let pairs = settled_pairs();
-    let frames = pairs.len() as u32;
+/// Mid and side in float, every pair of patterns of which `taken` says so.
+fn float_file(patterns: &[i32], taken: fn(f32, f32) -> bool) -> File {
+    let number = |bits: i32| f32::from_bits(bits as u32);
+    let all = patterns.iter().flat_map(|m| patterns.iter().map(move |s| (*m, *s)));
+    let pairs: Vec<(i32, i32)> = all.filter(|(m, s)| taken(number(*m), number(*s))).collect();
     let group = |part: &[(i32, i32)]| {
         let (mid, side): (Vec<i32>, Vec<i32>) = part.iter().copied().unzip();
         vec![flagged(3, raw(32, &mid)), flagged(2, raw(32, &side))]
     };
-    file(2, 32, frames, pairs.chunks(512).map(group).collect())
+    file(2, 32, pairs.len() as u32, pairs.chunks(512).map(group).collect())
+}
+
+/// Pairs whose sum and difference are numbers or infinities.
+pub fn float_pairs() -> File {
+    float_file(&patterns(), |m, s| !(m + s).is_nan() && !(m - s).is_nan())
+}
+
+/// Pairs whose sum or difference is a NaN.
+pub fn nan_pairs() -> File {
+    float_file(&[patterns(), nans()].concat(), |m, s| (m + s).is_nan() || (m - s).is_nan())
 }
 
 fn of_floats(random: &mut Random) -> Vec<Case> {
     let values = patterns();
-    let with_nans: Vec<i32> = values.iter().copied().chain([0x7FC0_0001, 0x7F80_0001, -1]).collect();
+    let with_nans = [patterns(), nans()].concat();
     let alone = |block: Block, frames: usize| file(1, 32, frames as u32, vec![vec![flagged(2, block)]]).bytes();
     let beside = |values: &[i32]| flagged(2, raw(32, values));
     let turned: Vec<i32> = values.iter().rev().copied().collect();
@@ -195,6 +204,7 @@ fn of_floats(random: &mut Random) -> Vec<Case> {
         case("float, mono, differences", alone(noisy(9, random), 512)),
         case("float, stereo", file(2, 32, 20, vec![vec![beside(&values), beside(&turned)]]).bytes()),
         case("float, mid/side", float_pairs().bytes()),
+        case("float, mid/side, NaNs", nan_pairs().bytes()),
     ]
 }
 
@@ -345,7 +355,7 @@ fn of_room(random: &mut Random) -> Vec<Case> {
 fn drawn(random: &mut Random) -> Vec<Case> {
     let mut maker = Maker::new(random.next());
     let files = std::iter::repeat_with(|| maker.question()).filter_map(to_read);
-    let small = files.filter(|file| file.len() <= LONGEST_DRAWN && settled(file));
+    let small = files.filter(|file| file.len() <= LONGEST_DRAWN);
     small.take(DRAWN).enumerate().map(|(k, file)| case(format!("drawn {k}"), file)).collect()
 }
 
@@ -354,9 +364,4 @@ fn to_read(question: Question) -> Option<Vec<u8>> {
         Question::Open(file) | Question::Decode(file) => Some(file),
         _ => None,
     }
-}
-
-/// Without the one NaN that stands for each NaN sum or difference: that is the machine's in the Rust.
-fn settled(file: &[u8]) -> bool {
-    !matches!(ask(&Question::Decode(file.to_vec())), Answer::Samples(list) if list.contains(&0x7FC0_0000))
 }

@@ -119,7 +119,7 @@ fn of_reading(tape: &mut Tape, random: &mut Random) {
     read(tape, "90 channels", &with(90, &|group| group.iter_mut().for_each(|block| *block = raw(1, &[-1; 3]))));
 }
 
-/// Sums of f32, rounded once; and document 01's NaN, which is not the original's.
+/// Sums of f32, rounded once; and document 02's NaNs, which are not the original's.
 fn of_floats(tape: &mut Tape) {
     let pair = |mid: &[u32], side: &[u32]| {
         let [mid, side] = [mid, side].map(|list| list.iter().map(|bits| *bits as i32).collect::<Vec<_>>());
@@ -128,7 +128,11 @@ fn of_floats(tape: &mut Tape) {
     read(tape, "-0 and 0 in float", &pair(&[0x8000_0000, 0, 0x8000_0000], &[0, 0x8000_0000, 0x8000_0000]));
     read(tape, "float sums that are rounded", &pair(&[0x4B80_0000, 0x3F80_0000, 1], &[0x3F80_0000, 0x3380_0001, 1]));
     read(tape, "float sums past the greatest", &pair(&[0x7F7F_FFFF, 0xFF7F_FFFF], &[0x7F7F_FFFF, 0x7F7F_FFFF]));
-    read(tape, "NaN sums", &pair(&[0x7F80_0000, 0x7F80_0001, 0xFFC1_2345], &[0x7F80_0000, 0, 0x3F80_0000]));
+    let infinity = 0x7F80_0000;
+    read(tape, "infinities in float", &pair(&[infinity, infinity, 0xFF80_0000], &[infinity, 0xFF80_0000, 0xFF80_0000]));
+    read(tape, "mid is a NaN", &pair(&[0x7FC1_2345, 0x7F80_0001, 0xFF80_0001], &[0x3F80_0000, 0, infinity]));
+    read(tape, "side is a NaN", &pair(&[0x3F80_0000, 0, infinity], &[0x7FC1_2345, 0x7F80_0001, 0xFF80_0001]));
+    read(tape, "mid and side are NaNs", &pair(&[0x7FC0_0007, 0x7F80_0007, 0xFFC0_0007], &[0x7F80_0009, 0xFFC0_0009, 0xFFFF_FFFF]));
     let sixteen = flagged(2, at_depth(16, &[-2, 3, -32_768]));
     read(tape, "float, bits 0 at depth 16", &one(1, 16, 3, vec![sixteen]).bytes());
     let nan = one(1, 32, 2, vec![flagged(2, raw(32, &[0x7F80_0001, -1]))]);
@@ -352,7 +356,10 @@ const TRAPS: &[(&str, &[&str])] = &[
     ("decoding: the other flag bits", &["read: every other bit", "trap: read, but no template: flags FFFC"]),
     ("decoding: float sums and zeros", &["trap: -0 and 0", "trap: float sums", "read: float, mid/side"]),
     ("decoding: float at any depth", &["trap: float, bits 0 at depth 16"]),
-    ("decoding: NaN", &["trap: NaN sums", "trap: float, NaNs"]),
+    ("decoding: a NaN of mid or side goes on", &["trap: mid is", "trap: side is", "read: float, mid/side, NaNs"]),
+    ("decoding: of two NaNs mid's", &["trap: mid and side are"]),
+    ("decoding: a NaN of infinities", &["trap: infinities in float"]),
+    ("decoding: NaNs without mid/side", &["trap: float, NaNs"]),
     ("decoding: many channels", &["trap: 90 channels"]),
     ("walk: past the last group", &["trap: a step past the last group"]),
     ("walk: a refused step does not advance, others are read", &["trap: a step behind a damaged group", "walk: bits word"]),

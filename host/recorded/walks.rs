@@ -1,7 +1,7 @@
 //! Files that are walked over group by group: from none to four groups of every kind, damaged ones, bytes that do not open, and too little room.
 use crate::asking::{ask, Answer, Question};
 use crate::blocks::{file, filled, flagged};
-use crate::cases::{float_pairs, set, with_flags, FAULTS};
+use crate::cases::{float_pairs, nan_pairs, set, with_flags, FAULTS};
 use crate::files::File;
 use crate::noisy::{noisy, noisy_at_depth, noisy_raw};
 use crate::random::Random;
@@ -64,8 +64,9 @@ fn of_kinds(random: &mut Random) -> Vec<Walk> {
     let at_depth = noisy_at_depth(24, random);
     let depth = file(1, 24, 1500, vec![vec![noisy(3, random)], vec![at_depth], vec![noisy_raw(11, random)]]);
     let float = [noisy(9, random), noisy_raw(32, random)].map(|block| vec![flagged(2, block)]).into();
-    let mut pairs = float_pairs();
+    let [mut pairs, mut nans] = [float_pairs(), nan_pairs()];
     pairs.groups[1][0].flags = 2;
+    nans.groups[1][0].flags = 2;
     let [gap, tail] = [5, 9].map(|n| random.bytes(n));
     let around = File { mark: 0x30, gap, tail, ..filled(1, 514, || noisy(2, random)) };
     vec![
@@ -74,6 +75,7 @@ fn of_kinds(random: &mut Random) -> Vec<Walk> {
         walk("direct and mid/side", with_flags(2, &[0, 0, 1, 1, 0, 1, 1, 0], random)),
         walk("float", file(1, 32, 600, float).bytes()),
         walk("float, mid/side and direct", pairs.bytes()),
+        walk("float, mid/side and direct, NaNs", nans.bytes()),
         walk("bytes around table and data", around.bytes()),
     ]
 }

@@ -3,14 +3,14 @@ use Prim.Native.Nat.{ℕ, _+_, _*_}
 use mathlib.Core.Path.{_≡_}
 use mathlib.Core.List.{List, [], _∷_, _++_}
 use lib.ListN.{length, getD, take, drop, replicate}
-use lib.IntN.{ℤ, pos}
+use lib.IntN.{ℤ, pos, negsuc}
 use lib.Ieee as Ieee
 use Rattle.format.specs.Lists.{tab, joined, from, over, lastOr, pairwise, every, firstNot, anyBelow, same, isIn}
-use Rattle.format.specs.Numbers.{num, digits, le, numAt}
+use Rattle.format.specs.Numbers.{num, digits, le, numAt, value}
 use Rattle.format.specs.Header.{signature, isSignature, fieldsOf, groupsOf, entry, groupBytes}
 use Rattle.format.specs.Packed.{codesIn, runOf, values, packing, coding, widthOf, isBeyond, rebuilt}
 use Rattle.format.specs.Blocks.{blockMark, isBlock, baseOf, bitsOf, midBit, floatBit, codingOf, sizeOf, decoded, samplesOf, fromBlock}
-use Rattle.format.specs.MidSide.{floatOf, patternOf, left, right, leftRight}
+use Rattle.format.specs.MidSide.{floatOf, patternOf, quieted, settled, left, right, leftRight}
 use Rattle.format.specs.Units.{within, depthWord, isDepth, depthOf, framesIn, checkFramed, active}
 use Rattle.format.specs.Refusals.{number, refuse, _then_, inOrder}
 use Rattle.format.specs.Places.{located, outside, inside}
@@ -28,11 +28,12 @@ use Rattle.format.specs.declared.refusals.Place.{Place}
 use Rattle.format.specs.declared.refusals.Checked.{Checked}
 use Rattle.format.specs.declared.refusals.Checked.the-variants.{Fine, No}
 use Rattle.format.specs.declared.settings.PcmSpec.{PcmSpec}
+use Rattle.format.specs.declared.settings.SampleFormat.the-variants.{Float}
 use Rattle.format.specs.declared.settings.StereoMode.the-variants.{Auto}
 
 -- every definition of document 01, and of the requests of document 02, so that a table unfolds them all by one word
 unfoldable pub document-01 : Unit {0}
-unfolding tab joined from over lastOr pairwise every firstNot anyBelow same isIn num digits le numAt signature isSignature fieldsOf groupsOf entry groupBytes codesIn runOf values packing coding widthOf isBeyond rebuilt blockMark isBlock baseOf bitsOf midBit floatBit codingOf sizeOf decoded samplesOf fromBlock floatOf patternOf left right leftRight within depthWord isDepth depthOf framesIn checkFramed refuse _then_ inOrder located outside inside misfit checkFit checkFields checkOffsets badEntry checkTable checkFirst formatOf checkOpen headerOf openOf isFloat checkBlock checkGroup coded channelsOf woven active groupSamples checkDecode decodedOf checkRoom decodeOf decodeInto checkStep stepSamples hasGroup checkStepInto checkWalk stepOf nextOf stepInto touched checkFrames checkFramesInto frameAt framesAt readFramesOf readFramesInto sevenIn seven marked sevenLength sevenValue checkSeven past picked extreme pairBytes summaryBytes channelPeak peakAt summaryOf checkPeaks checkPeaksInto buildPeaksOf buildPeaksInto comparePeaksOf pairCount pairNumber fromPair pairOf checkTwo checkPair checkSummary checkPeak pairsFrom readPeakOf readPeakInto checkAllPeaks readPeaksOf readPeaksInto channel unwoven padded paddedChannels differences leastFrom leastWidth firstValue blockBytes encodedBlock blocks mid side midSide equalParity parity takesMid encodedGroup groupIn encodedGroupAt headerBytes tableOf assembled encodedFile checkSpec checkEncoder checkSamples isMidSide checkStereo checkSize checkEncode checkEncodeInto encodeOf encodeInto newValues valuesFor baseFor reencodedBlock checkTemplateBlock checkReencodeBlock activeIn checkReencodeGroup reencodedGroup checkSame checkBounds checkRising checkTemplate checkReencoder checkReencode checkReencodeInto reencodedFile reencodeOf reencodeInto samplesFrom sampleBytes isMode modeOf checkMode checkBytes hostOpen hostDecode hostDecodeInto hostReadFrames hostReadFramesInto hostPeaks hostPeak hostPeakInto hostPeaksAll hostPeaksAllInto hostPeaksCheck checkHostEncode hostEncode hostEncodeInto checkHostReencode hostReencode hostReencodeInto hostDecodeRefusal hostReencodeRefusal Ieee.isNan Ieee.ofBits Ieee.toBits Ieee.add Ieee.sub Ieee.sum Ieee.round Ieee.units Ieee.odd Ieee.span Ieee.climb Ieee.size Ieee.neg
+unfolding tab joined from over lastOr pairwise every firstNot anyBelow same isIn num digits le numAt signature isSignature fieldsOf groupsOf entry groupBytes codesIn runOf values packing coding widthOf isBeyond rebuilt blockMark isBlock baseOf bitsOf midBit floatBit codingOf sizeOf decoded samplesOf fromBlock floatOf patternOf quieted settled left right leftRight within depthWord isDepth depthOf framesIn checkFramed refuse _then_ inOrder located outside inside misfit checkFit checkFields checkOffsets badEntry checkTable checkFirst formatOf checkOpen headerOf openOf isFloat checkBlock checkGroup coded channelsOf woven active groupSamples checkDecode decodedOf checkRoom decodeOf decodeInto checkStep stepSamples hasGroup checkStepInto checkWalk stepOf nextOf stepInto touched checkFrames checkFramesInto frameAt framesAt readFramesOf readFramesInto sevenIn seven marked sevenLength sevenValue checkSeven past picked extreme pairBytes summaryBytes channelPeak peakAt summaryOf checkPeaks checkPeaksInto buildPeaksOf buildPeaksInto comparePeaksOf pairCount pairNumber fromPair pairOf checkTwo checkPair checkSummary checkPeak pairsFrom readPeakOf readPeakInto checkAllPeaks readPeaksOf readPeaksInto channel unwoven padded paddedChannels differences leastFrom leastWidth firstValue blockBytes encodedBlock blocks mid side midSide equalParity parity takesMid encodedGroup groupIn encodedGroupAt headerBytes tableOf assembled encodedFile checkSpec checkEncoder checkSamples isMidSide checkStereo checkSize checkEncode checkEncodeInto encodeOf encodeInto newValues valuesFor baseFor reencodedBlock checkTemplateBlock checkReencodeBlock activeIn checkReencodeGroup reencodedGroup checkSame checkBounds checkRising checkTemplate checkReencoder checkReencode checkReencodeInto reencodedFile reencodeOf reencodeInto samplesFrom sampleBytes isMode modeOf checkMode checkBytes hostOpen hostDecode hostDecodeInto hostReadFrames hostReadFramesInto hostPeaks hostPeak hostPeakInto hostPeaksAll hostPeaksAllInto hostPeaksCheck checkHostEncode hostEncode hostEncodeInto checkHostReencode hostReencode hostReencodeInto hostDecodeRefusal hostReencodeRefusal Ieee.isNan Ieee.nanBits Ieee.ofBits Ieee.toBits Ieee.add Ieee.sub Ieee.sum Ieee.round Ieee.units Ieee.odd Ieee.span Ieee.climb Ieee.size Ieee.neg
 document-01 = tt
 
 -- ---- the number that checks give, 0 where nothing is refused
@@ -98,6 +99,21 @@ sides = changed 10 2 1 rising ++ nines
 
 abbrev pub floatSides : List ℕ
 floatSides = blockBytes (pos 0x3F800000) (pos 2) 3 (replicate 128 0) ++ blockBytes (pos 0x3F000000) (pos 2) 3 (replicate 128 0)
+
+-- the samples with these 32 bits
+abbrev pub bits : ℕ → ℕ → List ℤ
+bits l r = value 32 l ∷ value 32 r ∷ []
+
+-- left and right of a frame in float whose mid and side have these 32 bits
+abbrev pub both : ℕ → ℕ → List ℤ
+both m s = left Float (value 32 m) (value 32 s) ∷ right Float (value 32 m) (value 32 s) ∷ []
+
+-- a block in float that begins with this sample, raw at 32 bits, with the flags; a file of one stereo frame of two
+abbrev pub floatBlock : ℕ → ℕ → List ℕ
+floatBlock flags n = blockBytes (pos 0) (negsuc 31) flags (packing 32 (value 32 n ∷ replicate 511 (pos 0)))
+
+abbrev pub floatPair : ℕ → ℕ → ℕ → List ℕ
+floatPair flags m s = laid 2 32 1 [] ((floatBlock flags m ++ floatBlock flags s) ∷ []) []
 
 -- a file without frames
 abbrev pub empty : List ℕ

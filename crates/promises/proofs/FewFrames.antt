@@ -26,16 +26,14 @@ use Rattle.format.specs.declared.refusals.Checked.the-variants.{Fine, No}
 use Rattle.format.specs.declared.units.Frames.{Frames}
 use Rattle.format.specs.declared.answers.Outcome.the-variants.{Read}
 use Rattle.format.specs.declared.answers.Answer.{Answer}
-use Rattle.laws.proofs.Parts.{from-take}
 use Rattle.laws.proofs.Checks.{_and-then_, first-fine, others-fine}
-use Rattle.laws.proofs.Lengths.{decode-count}
 use Rattle.laws.proofs.Over.{over-none}
 use Rattle.laws.proofs.FewFrames.{frames, frames-join, frames-all, frames-within}
-use Rattle.promises.proofs.Outcomes.{Exactly, read-fine, read-count, samples-read, host-number}
-use Rattle.promises.proofs.HostFiles.{host-decoded, host-count, host-read}
+use Rattle.promises.proofs.Outcomes.{Exactly, read-fine, host-number}
+use Rattle.promises.proofs.HostFiles.{host-decoded}
 use Rattle.promises.proofs.Certain.{refused-exactly, frames-short}
 use Rattle.promises.proofs.ViewLaws.{says-same, leaves-same, host-leaves-same}
-use Rattle.promises.proofs.FewFramesLaws.{range-fine, range-count, range-left, range-reads, range-refuses, host-range-reads, all-checks, frames-pass, cut-passes, cut-within, frames-cut, bytes-cut, seam, first-of-two, past-so, so-past, short-so, so-short}
+use Rattle.promises.proofs.FewFramesLaws.{range-fine, range-count, range-left, range-reads, range-refuses, host-range-reads, all-checks, frames-pass, cut-passes, cut-left, host-cut-left, seam, first-of-two, past-so, so-past, short-so, so-short}
 
 -- room for so many frames of the file
 abbrev pub RoomFor : List ℕ → Frames → List ℤ → Type 0
@@ -51,11 +49,8 @@ pub frames-are-the-cut : (s : List ℕ) (out whole : List ℤ) (n : ℕ) (first 
     → ReadsFrames s first count lent r after
     → (r ≡ read (framesCount s count .0)) × (after ≡ over (from (framesCount s first .0) (framesCount s count .0) whole) lent)
 frames-are-the-cut s out whole n first count lent after r d within room e =
-    let fine = read-fine s out whole n d in
-    let q = range-reads s first count lent after r room e (cut-passes s first count within fine) in
-    let l : framesCount s first .0 + framesCount s count .0 ≤ n = omega (arith, cut-within s first count within fine, read-count s out whole n d, decode-count s fine) in
-    let cut = frames-cut s first count within fine ∙ ap (from _ _) (sym (samples-read s out whole n d)) ∙ from-take (framesCount s first .0) (framesCount s count .0) n whole l in
-    (q .0, q .1 ∙ ap (λ (x : List ℤ). over x lent) cut)
+    let q = range-reads s first count lent after r room e (cut-passes s first count within (read-fine s out whole n d)) in
+    (q .0, q .1 ∙ ap (λ (x : List ℤ). over x lent) (cut-left s out whole n first count d within))
 
 -- at the host boundary, of its bytes; below 2 ^ 63 decoding's answer is a length
 pub host-frames-are-the-cut : (s out whole : List ℕ) (n : ℕ) (first count : Frames) (lent after : List ℕ) (r : ℕ)
@@ -66,11 +61,8 @@ pub host-frames-are-the-cut : (s out whole : List ℕ) (n : ℕ) (first count : 
     → HostReadsFrames s first count lent r after
     → (r ≡ 4 * framesCount s count .0) × (after ≡ over (from (4 * framesCount s first .0) (4 * framesCount s count .0) whole) lent)
 host-frames-are-the-cut s out whole n first count lent after r d short within room e =
-    let fine = host-decoded s out whole n d short in
-    let q = host-range-reads s first count lent after r room e (cut-passes s first count within fine) in
-    let l : 4 * framesCount s first .0 + 4 * framesCount s count .0 ≤ n = omega (arith, cut-within s first count within fine, host-count s out whole n d short) in
-    let cut = bytes-cut s first count within fine ∙ ap (from _ _) (sym (host-read s out whole n d short)) ∙ from-take (4 * framesCount s first .0) (4 * framesCount s count .0) n whole l in
-    (q .0, q .1 ∙ ap (λ (x : List ℕ). over x lent) cut)
+    let q = host-range-reads s first count lent after r room e (cut-passes s first count within (host-decoded s out whole n d short)) in
+    (q .0, q .1 ∙ ap (λ (x : List ℕ). over x lent) (host-cut-left s out whole n first count d short within))
 
 -- ---- THE VIEW
 

@@ -1,6 +1,6 @@
 -- A few frames: what an answer tells of the checks and of the lent samples, and back; which groups decide; that they
 -- are a cut of the whole decode; and that two ranges which meet are checked as one.
-use Prim.Native.Nat.{ℕ, _+_, _-_, _*_, _/_, _≤_, _<_}
+use Prim.Native.Nat.{ℕ, _+_, _-_, _*_, _/_, _^_, _≤_, _<_}
 use mathlib.Core.Path.{_≡_, refl, sym, ap, ap₂, _∙_}
 use mathlib.Core.List.{List, _++_}
 use mathlib.Core.Bool.{Bool, true, false, not}
@@ -21,7 +21,7 @@ use Rattle.format.specs.Decoding.{checkGroup, checkDecode, decodedOf, checkRoom
 use Rattle.format.specs.Walking.{checkStep}
 use Rattle.format.specs.FewFrames.{rangeEnd, IsAsked, groupOf, touched, checkFrames, framesCount, checkFramesInto, framesAt, readFramesOf, readFramesInto}
 use Rattle.format.specs.Boundary.{sampleBytes, result, hostReadFrames, hostReadFramesInto}
-use Rattle.format.specs.Promises.{ReadsFrames, HostReadsFrames}
+use Rattle.format.specs.Promises.{Decodes, ReadsFrames, HostDecodes, HostReadsFrames}
 use Rattle.format.specs.declared.refusals.Refusal.{Refusal}
 use Rattle.format.specs.declared.refusals.Place.{Place}
 use Rattle.format.specs.declared.refusals.Refusal.the-variants.{OutputTooShort, RangePastEnd}
@@ -32,14 +32,15 @@ use Rattle.format.specs.declared.units.Samples.{Samples}
 use Rattle.format.specs.declared.answers.Outcome.the-variants.{Read}
 use Rattle.format.specs.declared.answers.Answer.{Answer}
 use Rattle.laws.proofs.Tests.{never}
-use Rattle.laws.proofs.Parts.{from-skip, from-front}
+use Rattle.laws.proofs.Parts.{from-skip, from-front, from-take}
 use Rattle.laws.proofs.Checks.{pass, _and-then_, _then-same_, then-fine, first-fine, others-fine, Unsaid, unsaid, _nor_, said-after, said-before, in-order, order-fine, order-cong, order-twice}
 use Rattle.laws.proofs.Chain.{room-short}
 use Rattle.laws.proofs.Located.{refused-so, groupNumbers, passes-unsaid, each-passes, open-passes, group-passes}
 use Rattle.laws.proofs.Lengths.{decode-count}
 use Rattle.laws.proofs.SampleBytes.{sample-bytes-from}
 use Rattle.laws.proofs.FewFrames.{frames, touchedSteps, touched-none, touched-some, none-or-some, touched-asked, frames-join, frames-all, checks-all, frames-long}
-use Rattle.promises.proofs.Outcomes.{Exactly, succeeds-fine, succeeds-as, written-front}
+use Rattle.promises.proofs.Outcomes.{Exactly, succeeds-fine, succeeds-as, written-front, read-fine, read-count, samples-read}
+use Rattle.promises.proofs.HostFiles.{host-decoded, host-count, host-read}
 use Rattle.promises.proofs.WalkLaws.{steps-checked, room-passes}
 use Rattle.promises.proofs.Certain.{refused-exactly}
 
@@ -154,6 +155,22 @@ module _ (s : List ℕ) (first count : Frames) (within : rangeEnd first count .0
     -- in bytes too
     pub bytes-cut : sampleBytes (framesAt s first count) ≡ from (4 * framesCount s first .0) (4 * framesCount s count .0) (sampleBytes (decodedOf s))
     bytes-cut = ap sampleBytes frames-cut ∙ sample-bytes-from (framesCount s first .0) (framesCount s count .0) (decodedOf s) cut-within
+
+-- where n samples were decoded, they are that cut of what was left
+pub cut-left : (s : List ℕ) (out whole : List ℤ) (n : ℕ) (first count : Frames) → Decodes s out (read n) whole → rangeEnd first count .0 ≤ fieldsOf s .frames .0
+    → framesAt s first count ≡ from (framesCount s first .0) (framesCount s count .0) whole
+cut-left s out whole n first count d within =
+    let fine = read-fine s out whole n d in
+    let l : framesCount s first .0 + framesCount s count .0 ≤ n = omega (arith, cut-within s first count within fine, read-count s out whole n d, decode-count s fine) in
+    frames-cut s first count within fine ∙ ap (from _ _) (sym (samples-read s out whole n d)) ∙ from-take (framesCount s first .0) (framesCount s count .0) n whole l
+
+-- at the host boundary of its bytes
+pub host-cut-left : (s out whole : List ℕ) (n : ℕ) (first count : Frames) → HostDecodes s out n whole → n < 2 ^ 63 → rangeEnd first count .0 ≤ fieldsOf s .frames .0
+    → sampleBytes (framesAt s first count) ≡ from (4 * framesCount s first .0) (4 * framesCount s count .0) whole
+host-cut-left s out whole n first count d short within =
+    let fine = host-decoded s out whole n d short in
+    let l : 4 * framesCount s first .0 + 4 * framesCount s count .0 ≤ n = omega (arith, cut-within s first count within fine, host-count s out whole n d short) in
+    bytes-cut s first count within fine ∙ ap (from _ _) (sym (host-read s out whole n d short)) ∙ from-take (4 * framesCount s first .0) (4 * framesCount s count .0) n whole l
 
 -- ---- two ranges that meet: the file is opened for either, and the group at the seam is checked in either
 after-both : (o x a b : Checked) → x ≡ (a then b) → (o then x) ≡ ((o then a) then (o then b))

@@ -5,6 +5,7 @@ pub mod Certain
 pub mod Contents
 pub mod Walks
 pub mod FewFrames
+pub mod LostFrames
 pub mod Peaks
 pub mod Places
 pub mod HostWords
@@ -36,5 +37,7 @@ pub mod Misfits
 pub mod WalkLaws
 pub mod ViewLaws
 pub mod FewFramesLaws
+-- lost frames
+pub mod LostFramesLaws
 -- summaries of peaks
 pub mod PeaksLaws

@@ -1,5 +1,6 @@
 // Mid and side of one frame: reading takes left and right from them, writing makes them of left and right.
-// In float files a sample is a pattern: it is read as an f32, summed, and the sum written back as its pattern.
+// In float files a sample is a pattern: it is read as an f32, summed, and the sum written back as its pattern. A NaN is
+// never summed, since machines differ in what they make of it: its own bits go on.
 use format::SampleFormat;
 use sample::bits_of;
 use sample::of_bits;
@@ -9,10 +10,10 @@ ghost use mathlib.Core.Path.{_≡_};
 ghost use mathlib.Core.Bool.{true};
 ghost use Prim.Native.Nat.{_/_};
 ghost use lib.IntN.{pos};
-ghost use lib.Ieee.{binary32, nanBits, ofBits};
-ghost use Rattle.format.specs.MidSide.{patternOf, left, right};
+ghost use lib.Ieee.{binary32, nanBits};
+ghost use Rattle.format.specs.MidSide.{patternOf, quieted, left, right};
 ghost use Rattle.format.specs.Encoding.{mid, side, equalParity};
-ghost use Rattle.stereo.specs.Patterns.{floatSum, floatDifference};
+ghost use Rattle.stereo.specs.Patterns.{marker, floatSum, floatDifference};
 ghost use Rattle.sample.specs.Raised.{raised};
 
 // Whether x is the pattern of a NaN: with the sign's bit off it is above the infinity's.
@@ -22,18 +23,21 @@ fn is_nan(x: u32) -> bool
     x % 0x8000_0000 > 0x7F80_0000
 }
 
-// The float that a pattern stands for, every NaN's pattern too.
-fn float_of(x: u32) -> f32
-    ensures { λ r. ⌜ r ≡ ofBits binary32 x ⌝ }
+// The one of mid and side whose bits go on if it is a NaN: mid if that is one, otherwise side.
+fn marker(mid: u32, side: u32) -> u32
+    ensures { λ r. ⌜ r ≡ marker mid side ⌝ }
 {
-    if is_nan(x) {
-        0.0 / 0.0
-    } else {
-        f32::from_bits(x)
-    }
+    if is_nan(mid) { mid } else { side }
 }
 
-// The pattern of a float: 0x7FC00000 for a NaN.
+// A NaN's bits as they go on: quiet.
+fn quieted(x: u32) -> u32
+    ensures { λ r. ⌜ r ≡ quieted x ⌝ }
+{
+    x | 0x0040_0000
+}
+
+// The pattern of a sum or a difference of numbers: 0x7FC00000 for a NaN.
 fn pattern_of(x: f32) -> u32
     ensures { λ r. ⌜ r ≡ patternOf x ⌝ }
 {
@@ -44,14 +48,24 @@ fn pattern_of(x: f32) -> u32
 fn float_sum(mid: u32, side: u32) -> u32
     ensures { λ r. ⌜ r ≡ floatSum mid side ⌝ }
 {
-    pattern_of(float_of(mid) + float_of(side))
+    let m = marker(mid, side);
+    if is_nan(m) {
+        quieted(m)
+    } else {
+        pattern_of(f32::from_bits(mid) + f32::from_bits(side))
+    }
 }
 
 // The pattern of mid - side, of the floats with these patterns.
 fn float_difference(mid: u32, side: u32) -> u32
     ensures { λ r. ⌜ r ≡ floatDifference mid side ⌝ }
 {
-    pattern_of(float_of(mid) - float_of(side))
+    let m = marker(mid, side);
+    if is_nan(m) {
+        quieted(m)
+    } else {
+        pattern_of(f32::from_bits(mid) - f32::from_bits(side))
+    }
 }
 
 // Left of mid and side: their sum, which wraps in PCM files and is rounded once in float files.

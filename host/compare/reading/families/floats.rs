@@ -1,4 +1,4 @@
-//! Floats: every pair of special patterns, as mid and side and as left and right, in each coding.
+//! Floats: every pair of special patterns, as mid and side and as left and right, in each coding; and drawn pairs.
 use super::Part;
 use crate::blocks::{at_depth, differences, file, flagged, noise, raw};
 use crate::files::Block;
@@ -20,7 +20,7 @@ const CODINGS: [Coding; 3] =
     [|a, b| raw(32, &[a, b]), |a, b| at_depth(32, &[a, b]), |a, b| differences(a, 32, &[b.wrapping_sub(a)])];
 
 pub fn all() -> Vec<Part> {
-    vec![pairs(), at_every_depth()]
+    vec![pairs(), drawn_pairs(), at_every_depth()]
 }
 
 /// The pair and the same turned round, by coding, direct and as mid/side.
@@ -32,6 +32,25 @@ fn pairs() -> Part {
         let (coding, flags) = (CODINGS[k / (n * n) % CODINGS.len()], 2 + (k / (n * n) / CODINGS.len()) as u16);
         file(2, 32, 2, vec![vec![flagged(flags, coding(mid, side)), flagged(2, coding(side, mid))]]).bytes()
     })
+}
+
+/// A group of drawn pairs as mid/side, raw.
+fn drawn_pairs() -> Part {
+    Part::new(2_000, |k| {
+        let random = &mut Random::new(k as u64);
+        let mut block = |flags| flagged(flags, raw(32, &(0..512).map(|_| word(random)).collect::<Vec<_>>()));
+        file(2, 32, 512, vec![vec![block(3), block(2)]]).bytes()
+    })
+}
+
+/// Any bits, or a NaN with any payload, or one of the patterns next to the NaNs; with either sign.
+fn word(random: &mut Random) -> i32 {
+    let bits = random.signed(32);
+    match random.below(4) {
+        0 | 1 => bits,
+        2 => bits | 0x7F80_0000,
+        _ => bits & i32::MIN | random.pick(&[0, 0x3F80_0000, 0x7F7F_FFFF, 0x7F80_0000, 0x7F80_0001, 0x7FC0_0000]),
+    }
 }
 
 /// Bits 0, direct and as mid/side: at a depth under 32 the pattern is what the sign makes of it.

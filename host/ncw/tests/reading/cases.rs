@@ -93,6 +93,10 @@ fn mid_and_side() {
     assert_eq!(pair(bits(1.5), bits(0.25), 3), [bits(1.75), bits(1.25)]);
     let infinity = bits(f32::INFINITY);
     assert_eq!(pair(infinity, infinity, 3), [infinity, 0x7FC0_0000]);
+    assert_eq!(pair(0x7F80_0001, bits(1.5), 3), [0x7FC0_0001; 2]);
+    assert_eq!(pair(bits(1.5), -2, 3), [-2; 2]);
+    assert_eq!(pair(0x7F80_0001, -2, 3), [0x7FC0_0001; 2]);
+    assert_eq!(pair(0x7F80_0001, -2, 2), [0x7F80_0001, -2]);
 }
 
 #[test]

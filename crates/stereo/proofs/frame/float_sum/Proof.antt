@@ -1,20 +1,43 @@
--- The pattern of the sum of the two floats, each read from its pattern: the definition, call by call.
+-- Where the marker is no NaN's, neither pattern is, so both are read, and the sum's pattern is settled; otherwise
+-- the marker's bits are.
 use borrow.Author.Needs.{needs}
+use Rattle.stereo.proofs.Nans.{mid-number, side-number, number-settled, nan-settled}
 use Rattle.stereo.proofs.frame.float_sum.Statement.{statement}
 use Rattle.stereo.proofs.frame.float_sum.Tie as tie
 
-float-of-requires : tie.Need-float-of-requires
-float-of-requires c κs = search needs
+marker-requires : tie.Need-marker-requires
+marker-requires c κs = search needs
 
-float-of-requires-2 : tie.Need-float-of-requires-2
-float-of-requires-2 c κs = search needs
+is-nan-requires : tie.Need-is-nan-requires
+is-nan-requires c κs = search needs
+
+quieted-requires : tie.Need-quieted-requires
+quieted-requires c κs = search needs
+
+float-from-bits-pattern-of : tie.Need-float-from-bits-pattern-of
+float-from-bits-pattern-of c = search mid-number
+
+float-from-bits-pattern-of-2 : tie.Need-float-from-bits-pattern-of-2
+float-from-bits-pattern-of-2 c = search side-number
 
 pattern-of-requires : tie.Need-pattern-of-requires
 pattern-of-requires c κs = search needs
 
 returns : tie.Need-returns
-returns c = cc
+returns c = search nan-settled
+
+returns-2 : tie.Need-returns-2
+returns-2 c = search number-settled
 
 pub float-sum-spec : {M : Type 1} → statement M
 float-sum-spec =
-    tie.close (tie.spec float-of-requires float-of-requires-2 pattern-of-requires returns)
+    tie.close
+    (tie.spec
+    marker-requires
+    is-nan-requires
+    quieted-requires
+    float-from-bits-pattern-of
+    float-from-bits-pattern-of-2
+    pattern-of-requires
+    returns
+    returns-2)
