@@ -7,7 +7,7 @@ use crate::nans::{is_nan, settled};
 use crate::random::Random;
 use crate::rows::{Form, Row};
 use crate::Work;
-use ncw::{PcmSpec, StereoMode, SAMPLES_PER_BLOCK};
+use ncw::{PcmSpec, SAMPLES_PER_BLOCK};
 
 /// A NaN's bits are the machine's in the original.
 pub const WORK: Work = Work {
@@ -28,7 +28,7 @@ fn input(row: &Row) -> Input {
     let spec = PcmSpec { channels: row.form.channels(), bits_per_sample: row.depth, sample_rate: RATE };
     let groups = pairs.chunks(SAMPLES_PER_BLOCK).map(|pairs| [0, 1].map(|c| block(pairs, c)).into());
     let file = file(spec.channels, row.depth, pairs.len() as u32, groups.collect()).bytes();
-    Input { samples: samples.collect(), spec, mode: StereoMode::MidSide, file }
+    Input { samples: samples.collect(), spec, mode: row.form.mode(), file }
 }
 
 fn block(pairs: &[[i32; 2]], channel: usize) -> Block {

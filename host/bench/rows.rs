@@ -46,7 +46,7 @@ impl Form {
 
     /// Whether every group is mid/side.
     pub fn is_mid_side(self) -> bool {
-        matches!(self, Form::MidSide | Form::AutoMidSide | Form::Floats | Form::FloatNans)
+        matches!(self, Form::MidSide | Form::AutoMidSide)
     }
 
     fn name(self) -> &'static str {

@@ -1,4 +1,5 @@
 //! Questions, and what the Rust original answers.
+// Here, and not in the crate's root: for the fuzzer this file is a crate of its own.
 #[path = "nans.rs"]
 mod nans;
 
@@ -63,16 +64,13 @@ fn decode(file: &[u8]) -> Result<Answer, NcwError> {
     Ok(Answer::Samples(samples))
 }
 
-/// A NaN sum or difference is the machine's in the Rust: document 02 says its bits, and only there. Mid and side are what
-/// the Rust reads once no group says that it is mid/side.
+/// A NaN sum or difference is the machine's in the Rust: document 02 says its bits, and only there. Mid and side are
+/// what the Rust reads once no group says that it is mid/side.
 fn settle_nans(file: &[u8], reader: &NcwReader<Cursor<&[u8]>>, samples: &mut [i32]) {
+    let flags = |offset: &u32| reader.header.data_offset as usize + *offset as usize + 10;
+    let sided: Vec<bool> = reader.block_offsets.iter().map(|offset| file[flags(offset)] & 1 == 1).collect();
     let mut direct = file.to_vec();
-    let mut sided = Vec::new();
-    for offset in &reader.block_offsets {
-        let flags = &mut direct[reader.header.data_offset as usize + *offset as usize + 10];
-        sided.push(*flags & 1 == 1);
-        *flags &= !1;
-    }
+    reader.block_offsets.iter().for_each(|offset| direct[flags(offset)] &= !1);
     let read = NcwReader::read(Cursor::new(&direct[..])).and_then(|mut reader| reader.decode_samples());
     let coded = read.expect("a file without mid/side is read where the file is");
     let size = 512 * usize::from(reader.header.channels);

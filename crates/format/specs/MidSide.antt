@@ -27,8 +27,8 @@ patternOf result = cond (Ieee.isNan result) 0x7FC0_0000 (Ieee.toBits binary32 re
 unfoldable pub quieted : ℕ → ℕ
 quieted bits = bitOr bits 0x0040_0000
 
--- the 32 bits of a sum or a difference of mid and side: where one of the two is a NaN, that one's, and mid's where both
--- are
+-- the 32 bits of a sum or a difference of mid and side: where one of the two is a NaN, that one's, quieted, and mid's
+-- where both are; otherwise the result's
 unfoldable pub settled : ℕ → ℕ → Ieee.Float → ℕ
 settled mid side result =
     cond (nanBits binary32 mid) (quieted mid) (cond (nanBits binary32 side) (quieted side) (patternOf result))

@@ -1,38 +1,37 @@
 -- NaNs in float mid/side: what a NaN's bits are once they are quiet, what is settled of a pair, and what a frame of a
 -- mid/side group decodes to.
-use Prim.Native.Nat.{ℕ, zero, suc, _+_, _/_, _%_, _^_, _≤_, _<_, max}
+use Prim.Native.Nat.{ℕ, zero, suc, _+_, _*_, _/_, _%_, _^_, _≤_, _<_, max}
 use mathlib.Core.Path.{_≡_, refl, sym, ap, ap₂, _∙_}
 use mathlib.Core.Logic.{_≢_}
 use mathlib.Core.Bool.{Bool, true, false, cond}
-use mathlib.Core.List.{List, [], _∷_}
+use mathlib.Core.List.{List, [], _∷_, append-nil}
 use native.Mathlib.Omega.{arith}
 use native.Mathlib.Nat.{max-zero, div-one, zero-div, pow-suc}
-use lib.ListN.{length, getD}
+use lib.ListN.{length, getD, take, drop}
+use lib.Seq.{take-at}
 use lib.IntN.{ℤ, pos}
 use lib.Bits.{bitOr, or-step, or-lt}
 use lib.Pow.{shr-shr}
 use lib.Ieee as Ieee
 use lib.Ieee.{binary32, nanBits}
-use Rattle.format.specs.Lists.{joined, pairwise}
+use Rattle.format.specs.Lists.{joined, from, pairwise}
 use Rattle.format.specs.Header.{fieldsOf, groupBytes}
 use Rattle.format.specs.Blocks.{midBit, samplesOf, fromBlock}
 use Rattle.format.specs.MidSide.{patternOf, quieted, settled, left, right, leftRight}
-use Rattle.format.specs.Opening.{formatOf}
-use Rattle.format.specs.Decoding.{checkGroup, checkDecode, coded, channelsOf, frameOf}
-use Rattle.format.specs.FewFrames.{groupOf, checkFrames, frameAt, framesAt}
+use Rattle.format.specs.Opening.{formatOf, checkOpen}
+use Rattle.format.specs.Decoding.{checkGroup, coded, channelsOf, frameOf}
+use Rattle.format.specs.FewFrames.{groupOf, frameAt}
 use Rattle.format.specs.declared.refusals.Checked.the-variants.{Fine}
 use Rattle.format.specs.declared.settings.SampleFormat.{SampleFormat}
 use Rattle.format.specs.declared.answers.Fields.{Fields}
-use Rattle.laws.proofs.Parts.{getD-tab}
+use Rattle.laws.proofs.Parts.{getD-tab, behind}
 use Rattle.laws.proofs.Signs.{Holds}
 use Rattle.laws.proofs.Halves.{pairwise-at}
 use Rattle.laws.proofs.Opened.{some-channels, opened-fields, depth-least, depth-most}
 use Rattle.laws.proofs.Passed.{bits-known, block-fine, mid-two}
 use Rattle.laws.proofs.Lengths.{samples-512}
-use Rattle.laws.proofs.FewFrames.{frames, frames-opens, frame-passes}
 use Rattle.promises.proofs.MidSums.{midAt, sideAt}
 use Rattle.promises.proofs.Kept.{samples-fit}
-use Rattle.promises.proofs.FewFramesLaws.{cut-passes}
 
 -- ---- bit i of a number, from the lowest on
 abbrev pub bit : ℕ → ℕ → ℕ
@@ -103,8 +102,8 @@ module _ (h : Fields) (f : SampleFormat) (bs : List ℕ) (some : 1 ≤ h .channe
       ∙ pairwise-at op _ _ i (pos 0) (pos 0) (omega (arith, block-512 0 (omega arith))) (omega (arith, block-512 1 (omega arith))) in
       ap (λ (b : Bool). frameOf (cond b (leftRight f chans) chans) i) sided ∙ ap₂ (λ (x y : ℤ). x ∷ y ∷ []) (at (left f)) (at (right f))
 
--- ---- and of a file that decodes: frame j, in such a group
-module _ (s : List ℕ) (fine : checkDecode s ≡ Fine) (j : ℕ) (within : j < fieldsOf s .frames .0) where
+-- ---- and of a file that opens: frame j, in such a group
+module _ (s : List ℕ) (opens : checkOpen s ≡ Fine) (j : ℕ) where
   abbrev h : Fields
   h = fieldsOf s
 
@@ -114,32 +113,32 @@ module _ (s : List ℕ) (fine : checkDecode s ≡ Fine) (j : ℕ) (within : j < 
   abbrev bs : List ℕ
   bs = groupBytes s h (groupOf j)
 
-  passes : checkFrames s (frames j) (frames 1) ≡ Fine
-  passes = cut-passes s (frames j) (frames 1) (omega arith) fine
-
   some : 1 ≤ h .channels
-  some = some-channels h (opened-fields s (frames-opens s (frames j) (frames 1) passes))
+  some = some-channels h (opened-fields s opens)
 
-  group-passes : checkGroup h f bs ≡ Fine
-  group-passes = frame-passes s (frames j) (frames 1) passes j (omega arith, omega arith)
-
-  module _ (sided : midBit bs ≡ true) where
+  module _ (passes : checkGroup h f bs ≡ Fine) (sided : midBit bs ≡ true) where
     pub sides-two : h .channels ≡ 2
-    sides-two = mid-two h f bs group-passes some sided
+    sides-two = mid-two h f bs passes some sided
 
-    pub sides-frame : framesAt s (frames j) (frames 1) ≡ left f (midAt (h .depth) bs (j % 512)) (sideAt (h .depth) bs (j % 512)) ∷ right f (midAt (h .depth) bs (j % 512)) (sideAt (h .depth) bs (j % 512)) ∷ []
-    unfolding framesAt frameAt joined
-    sides-frame = let e : j + 0 ≡ j = omega arith in ap (λ (k : ℕ). frameOf (channelsOf h f (groupBytes s h (groupOf k))) (k % 512)) e ∙ frame-sides h f bs some group-passes sided (j % 512) (omega arith)
+    pub sides-frame : frameAt s j ≡ left f (midAt (h .depth) bs (j % 512)) (sideAt (h .depth) bs (j % 512)) ∷ right f (midAt (h .depth) bs (j % 512)) (sideAt (h .depth) bs (j % 512)) ∷ []
+    unfolding frameAt
+    sides-frame = frame-sides h f bs some passes sided (j % 512) (omega arith)
 
     -- mid and side are numbers of 32 bits
     block-holds : (c : ℕ) → c < 2 → Holds 32 (getD (samplesOf (h .depth) (fromBlock (h .depth) bs c)) (j % 512) (pos 0))
     block-holds c q =
-        let opens = opened-fields s (frames-opens s (frames j) (frames 1) passes) in
-        samples-fit (h .depth) _ (omega (arith, depth-least h opens)) (depth-most h opens)
-        (bits-known h f c _ (block-fine h f bs group-passes c (omega (arith, sides-two)))) (j % 512) .sfits
+        let ok = opened-fields s opens in
+        samples-fit (h .depth) _ (omega (arith, depth-least h ok)) (depth-most h ok) (bits-known h f c _ (block-fine h f bs passes c (omega (arith, sides-two)))) (j % 512) .sfits
 
     pub mid-of-32 : Holds 32 (midAt (h .depth) bs (j % 512))
     mid-of-32 = block-holds 0 (omega arith)
 
     pub side-of-32 : Holds 32 (sideAt (h .depth) bs (j % 512))
     side-of-32 = block-holds 1 (omega arith)
+
+-- ---- one of many frames that lie one behind another, of two samples each
+pub nth-frame : (P : ℕ → List ℤ) (n k : ℕ) → k < n → length (joined P k) ≡ 2 * k → length (P k) ≡ 2 → from (2 * k) 2 (joined P n) ≡ P k
+unfolding from
+nth-frame P n k l before two =
+    let b = behind P k n [] l in
+    ap₂ (λ (i : ℕ) (xs : List ℤ). take 2 (drop i xs)) (sym before) (sym (append-nil (joined P n))) ∙ ap (take 2) (b .1) ∙ take-at (P k) (b .0) 2 two

@@ -8,7 +8,7 @@ use lib.Ieee.{Float, binary32, nanBits, nan, inf, fin}
 use lib.Ieee.Compare.{differs-from-itself, nan-differs}
 use Rattle.format.specs.MidSide.{patternOf, quieted, settled}
 use Rattle.laws.proofs.Tests.{never}
-use Rattle.stereo.specs.Patterns.{marker}
+use Rattle.stereo.specs.Patterns.{lostBy}
 
 -- `x != x`
 pub differs : (x : Float) → Ieee.ne x x ≡ true → Ieee.isNan x ≡ true
@@ -24,22 +24,22 @@ same (fin s m e) h = refl
 -- ---- the patterns m and s of mid and side, and k, the one of them that is tested
 
 -- it is mid's where that is a NaN's, otherwise side's
-pub tests-mid : (m s : ℕ) (b : Bool) → b ≡ nanBits binary32 m → b ≡ true → m ≡ marker m s
+pub tests-mid : (m s : ℕ) (b : Bool) → b ≡ nanBits binary32 m → b ≡ true → m ≡ lostBy m s
 tests-mid m s b e t = rw (sym e ∙ t)
 
-pub tests-side : (m s : ℕ) (b : Bool) → b ≡ nanBits binary32 m → b ≡ false → s ≡ marker m s
+pub tests-side : (m s : ℕ) (b : Bool) → b ≡ nanBits binary32 m → b ≡ false → s ≡ lostBy m s
 tests-side m s b e t = rw (sym e ∙ t)
 
 -- where that is no NaN's, neither is
-neither : (m s : ℕ) → nanBits binary32 (marker m s) ≡ false → (nanBits binary32 m ≡ false) × (nanBits binary32 s ≡ false)
+neither : (m s : ℕ) → nanBits binary32 (lostBy m s) ≡ false → (nanBits binary32 m ≡ false) × (nanBits binary32 s ≡ false)
 neither m s = by (nanBits binary32 m) refl
   where
     by : (t : Bool) → nanBits binary32 m ≡ t → nanBits binary32 (cond t m s) ≡ false → (t ≡ false) × (nanBits binary32 s ≡ false)
     by true e q = never (sym e ∙ q)
     by false e q = (refl, q)
 
-module _ (m s k : ℕ) (b : Bool) (k-is : k ≡ marker m s) (tested : b ≡ nanBits binary32 k) where
-  told : nanBits binary32 (marker m s) ≡ b
+module _ (m s k : ℕ) (b : Bool) (k-is : k ≡ lostBy m s) (tested : b ≡ nanBits binary32 k) where
+  told : nanBits binary32 (lostBy m s) ≡ b
   told = sym (tested ∙ ap (nanBits binary32) k-is)
 
   pub mid-number : b ≡ false → T (not (nanBits binary32 m))

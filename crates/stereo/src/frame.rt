@@ -13,7 +13,7 @@ ghost use lib.IntN.{pos};
 ghost use lib.Ieee.{binary32, nanBits};
 ghost use Rattle.format.specs.MidSide.{patternOf, quieted, left, right};
 ghost use Rattle.format.specs.Encoding.{mid, side, equalParity};
-ghost use Rattle.stereo.specs.Patterns.{marker, floatSum, floatDifference};
+ghost use Rattle.stereo.specs.Patterns.{lostBy, floatSum, floatDifference};
 ghost use Rattle.sample.specs.Raised.{raised};
 
 // Whether x is the pattern of a NaN: with the sign's bit off it is above the infinity's.
@@ -23,9 +23,9 @@ fn is_nan(x: u32) -> bool
     x % 0x8000_0000 > 0x7F80_0000
 }
 
-// The one of mid and side whose bits go on if it is a NaN: mid if that is one, otherwise side.
-fn marker(mid: u32, side: u32) -> u32
-    ensures { λ r. ⌜ r ≡ marker mid side ⌝ }
+// The one of mid and side that a frame is lost by, if it is a NaN: mid if that is one, otherwise side.
+fn lost_by(mid: u32, side: u32) -> u32
+    ensures { λ r. ⌜ r ≡ lostBy mid side ⌝ }
 {
     if is_nan(mid) { mid } else { side }
 }
@@ -44,25 +44,25 @@ fn pattern_of(x: f32) -> u32
     if x != x { 0x7FC0_0000 } else { f32::to_bits(x) }
 }
 
-// The pattern of mid + side, of the floats with these patterns.
+// The pattern of mid + side, of the floats with these patterns; where one is a NaN, its bits.
 fn float_sum(mid: u32, side: u32) -> u32
     ensures { λ r. ⌜ r ≡ floatSum mid side ⌝ }
 {
-    let m = marker(mid, side);
-    if is_nan(m) {
-        quieted(m)
+    let x = lost_by(mid, side);
+    if is_nan(x) {
+        quieted(x)
     } else {
         pattern_of(f32::from_bits(mid) + f32::from_bits(side))
     }
 }
 
-// The pattern of mid - side, of the floats with these patterns.
+// The pattern of mid - side, likewise.
 fn float_difference(mid: u32, side: u32) -> u32
     ensures { λ r. ⌜ r ≡ floatDifference mid side ⌝ }
 {
-    let m = marker(mid, side);
-    if is_nan(m) {
-        quieted(m)
+    let x = lost_by(mid, side);
+    if is_nan(x) {
+        quieted(x)
     } else {
         pattern_of(f32::from_bits(mid) - f32::from_bits(side))
     }

@@ -1,12 +1,12 @@
--- Where the marker is no NaN's, neither pattern is, so both are read, and the sum's pattern is settled; otherwise
--- the marker's bits are.
+-- Where the pattern that is tested is no NaN's, neither is: both are read, and the sum's pattern is settled.
+-- Otherwise the bits of that one are.
 use borrow.Author.Needs.{needs}
 use Rattle.stereo.proofs.Nans.{mid-number, side-number, number-settled, nan-settled}
 use Rattle.stereo.proofs.frame.float_sum.Statement.{statement}
 use Rattle.stereo.proofs.frame.float_sum.Tie as tie
 
-marker-requires : tie.Need-marker-requires
-marker-requires c κs = search needs
+lost-by-requires : tie.Need-lost-by-requires
+lost-by-requires c κs = search needs
 
 is-nan-requires : tie.Need-is-nan-requires
 is-nan-requires c κs = search needs
@@ -33,7 +33,7 @@ pub float-sum-spec : {M : Type 1} → statement M
 float-sum-spec =
     tie.close
     (tie.spec
-    marker-requires
+    lost-by-requires
     is-nan-requires
     quieted-requires
     float-from-bits-pattern-of
