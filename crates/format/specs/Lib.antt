@@ -2,7 +2,7 @@
 -- Lists, Numbers: the words that the others are written in.
 pub mod Lists
 pub mod Numbers
--- "The file", "Packed values"
+-- "The file", "Packed values"; of NaNs also document 02's L5
 pub mod Header
 pub mod Packed
 pub mod Blocks

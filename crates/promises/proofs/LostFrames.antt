@@ -119,7 +119,7 @@ abbrev pub IsSided : List ℕ → ℕ → Type 0
 IsSided s j = let h = fieldsOf s in (j < h .frames .0) × (midBit (groupBytes s h (groupOf j)) ≡ true)
 
 -- its group passes, so it can be read
-abbrev Passes : List ℕ → ℕ → Type 0
+abbrev pub Passes : List ℕ → ℕ → Type 0
 Passes s j = let h = fieldsOf s in checkGroup h (formatOf s h) (groupBytes s h (groupOf j)) ≡ Fine
 
 one-frame : (s : List ℕ) (j : ℕ) → framesAt s (frames j) (frames 1) ≡ frameAt s j
@@ -137,7 +137,15 @@ module _ (s : List ℕ) (fine : checkDecode s ≡ Fine) (j : ℕ) (within : j < 
   decode-passes : Passes s j
   decode-passes = frame-passes s (frames j) (frames 1) one-passes j (omega arith, omega arith)
 
--- where the whole decode reads, the two samples of such a frame are left and right of its mid and side, in PCM too
+-- where the whole decode reads, frame j of two channels is two samples of it
+decode-frame : (s : List ℕ) (out whole : List ℤ) (n j : ℕ) → Decodes s out (read n) whole → j < fieldsOf s .frames .0 → fieldsOf s .channels ≡ 2
+    → from (2 * j) 2 whole ≡ frameAt s j
+decode-frame s out whole n j d within two =
+    let a : j * fieldsOf s .channels ≡ 2 * j = omega (arith, ap (λ (c : ℕ). j * c) two) in
+    let b : 1 * fieldsOf s .channels ≡ 2 = omega arith in
+    ap₂ (λ (x y : ℕ). from x y whole) (sym a) (sym b) ∙ sym (cut-left s out whole n (frames j) (frames 1) d (omega arith)) ∙ one-frame s j
+
+-- of a mid/side group, left and right of its mid and side, in PCM too
 pub sides-decode : (s : List ℕ) (out whole : List ℤ) (n j : ℕ)
     → Decodes s out (read n) whole
     → IsSided s j
@@ -146,10 +154,7 @@ sides-decode s out whole n j d (within, sided) =
     let fine = read-fine s out whole n d in
     let opens = decode-opens s fine j within in
     let passes = decode-passes s fine j within in
-    let two = sides-two s opens j passes sided in
-    let a : j * fieldsOf s .channels ≡ 2 * j = omega (arith, ap (λ (c : ℕ). j * c) two) in
-    let b : 1 * fieldsOf s .channels ≡ 2 = omega arith in
-    ap₂ (λ (x y : ℕ). from x y whole) (sym a) (sym b) ∙ sym (cut-left s out whole n (frames j) (frames 1) d (omega arith)) ∙ one-frame s j ∙ sides-frame s opens j passes sided
+    decode-frame s out whole n j d within (sides-two s opens j passes sided) ∙ sides-frame s opens j passes sided
 
 -- the NaN that frame j is lost by; the file is float, the group is mid/side, and there is one
 abbrev pub lostIn : List ℕ → ℕ → ℤ
@@ -176,10 +181,11 @@ pub lost-frame : (s : List ℕ) (out whole : List ℤ) (n j : ℕ)
     → IsLost s j
     → from (2 * j) 2 whole ≡ marker (lostIn s j) ∷ marker (lostIn s j) ∷ []
 lost-frame s out whole n j d lost =
-    let q = lost-goes-on (midIn s j) (sideIn s j) (lost .2) in
-    sides-decode s out whole n j d (lost .1)
-    ∙ ap (λ (f : SampleFormat). left f (midIn s j) (sideIn s j) ∷ right f (midIn s j) (sideIn s j) ∷ []) (lost .0)
-    ∙ ap₂ (λ (x y : ℤ). x ∷ y ∷ []) (q .0) (q .1)
+    let fine = read-fine s out whole n d in
+    let within = lost .1 .0 in
+    let opens = decode-opens s fine j within in
+    let passes = decode-passes s fine j within in
+    decode-frame s out whole n j d within (lost-two s opens j passes lost) ∙ lost-at s opens j passes lost
 
 -- in a range of frames, whatever the groups are that it does not touch
 pub lost-in-range : (s : List ℕ) (first count : Frames) (lent after : List ℤ) (n j : ℕ)
