@@ -28,7 +28,7 @@ pub trait Input: Clone + PartialEq + Send {
     fn shown(&self) -> (String, Vec<&[u8]>);
 }
 
-/// What differs, what the Rust or document 01 says, and what ours says.
+/// What differs, what the Rust or a document says, and what ours says.
 #[derive(Clone)]
 pub struct Difference {
     pub what: String,

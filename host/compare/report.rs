@@ -28,7 +28,7 @@ pub fn one<A: Answers>(tally: &Tally<A>, difference: Option<&Difference>) {
 }
 
 pub fn print(difference: &Difference) {
-    println!("{}: the Rust or document 01: {}; ours: {}", difference.what, difference.rust, difference.ours);
+    println!("{}: the Rust or a document: {}; ours: {}", difference.what, difference.rust, difference.ours);
 }
 
 /// The difference, and the smallest input that shows one.
