@@ -1,5 +1,5 @@
-//! The bits of a sum or a difference of mid and side in a float file, by document 02 alone, L5. Nothing here is the Rust
-//! original's.
+//! The bits of a sum or a difference of mid and side in a float file, by document 02 alone, L5. Nothing here is the
+//! Rust original's.
 
 /// `result` is the machine's. Of a NaN only that it is one counts, since machines write them in different ways.
 pub fn settled(mid: i32, side: i32, result: f32) -> i32 {

@@ -1,6 +1,6 @@
 -- Document 02, L5: lost-frame markers in float files. In mid/side a NaN goes on into both channels of its frame: mid's
--- if that is one, otherwise side's. All its bits are kept but bit 22, 0x00400000, which is set. Without a NaN in mid and
--- side the sum and the difference are what document 01 says.
+-- if that is one, otherwise side's. All its bits are kept but bit 22, 0x00400000, which is set. Without a NaN in mid
+-- and side the sum and the difference are what document 01 says.
 use Prim.Native.Nat.{ℕ, _+_, _-_, _*_, _%_, _^_, _<_}
 use mathlib.Core.Path.{_≡_, refl, sym, ap, ap₂, _∙_}
 use mathlib.Core.Logic.{_≢_, _⊎_, ⊎-elim}
@@ -187,7 +187,7 @@ lost-frame s out whole n j d lost =
     let passes = decode-passes s fine j within in
     decode-frame s out whole n j d within (lost-two s opens j passes lost) ∙ lost-at s opens j passes lost
 
--- in a range of frames, whatever the groups are that it does not touch
+-- in a range of frames, whatever the groups are that it does not touch, but for the first block's signature and flags
 pub lost-in-range : (s : List ℕ) (first count : Frames) (lent after : List ℤ) (n j : ℕ)
     → ReadsFrames s first count lent (read n) after
     → IsAsked first count j
@@ -206,7 +206,7 @@ lost-in-range s first count lent after n j d (from-first, to-end) lost =
     let m : n ≡ count .0 * 2 = range-count s first count lent after n d ∙ ap (λ (c : ℕ). count .0 * c) two in
     sym (from-take (2 * k) 2 n after (omega arith)) ∙ ap (from (2 * k) 2) (range-left s first count lent after n d) ∙ nth-frame _ (count .0) k (omega arith) before (ap length at) ∙ at
 
--- in a step, whatever the other groups are
+-- in a step, whatever the other groups are, but for the first block's signature and flags
 pub lost-in-step : (s : List ℕ) (lent after : List ℤ) (n j : ℕ)
     → Steps s (groupOf j) lent (read n) after
     → IsLost s j

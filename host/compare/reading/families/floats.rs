@@ -43,8 +43,8 @@ fn drawn_pairs() -> Part {
     })
 }
 
-/// Any bits, or a NaN with any payload (by chance an infinity), or a zero, a one, or a pattern next to the NaNs or among
-/// them; with either sign.
+/// Any bits, or a NaN with any payload (by chance an infinity), or zero, 1.0, the greatest number, infinity, the least
+/// NaN of either kind; with either sign.
 fn word(random: &mut Random) -> i32 {
     let bits = random.signed(32);
     match random.below(4) {
