@@ -81,15 +81,22 @@ fn samples(row: &Row) -> Vec<i32> {
 }
 
 /// A frame of a group whose differences take so many bits, of mid and side where they are what is coded.
-fn frame_of(row: &Row, bits: u32, random: &mut Random) -> [i32; 2] {
+fn frame_of(row: &Row, bits: u32, random: &mut Random) -> Vec<i32> {
     let raw = bits == row.depth.into();
-    let [first, second] = match raw {
-        true => [random.signed(bits), random.signed(bits)],
-        false => [random.below(1 << (bits - 1)) as i32, random.below(1 << (bits - 1)) as i32],
+    let mut sample = || match raw {
+        true => random.signed(bits),
+        false => random.below(1 << (bits - 1)) as i32,
     };
-    let even = [first, second & !1 | first & 1];
     match row.form {
-        Form::AutoMidSide => beside(first, second & 1, row.depth),
+        Form::Eight => (0..8).map(|_| sample()).collect(),
+        form => pair_of(form, row.depth, raw, [sample(), sample()]).into(),
+    }
+}
+
+fn pair_of(form: Form, depth: u16, raw: bool, [first, second]: [i32; 2]) -> [i32; 2] {
+    let even = [first, second & !1 | first & 1];
+    match form {
+        Form::AutoMidSide => beside(first, second & 1, depth),
         Form::AutoDirect => even,
         Form::AutoOdd => [first, second],
         Form::MidSide if !raw => [first + second, first - second],

@@ -1,5 +1,5 @@
 //! The Rust original and ours, timed in turns on the same files or samples:
-//! bench [encode|reencode|frames|floats|peaks] [--short]
+//! bench [encode|reencode|wide|frames|floats|peaks] [--short]
 #[allow(dead_code)]
 #[path = "../recorded/blocks.rs"]
 mod blocks;
@@ -61,6 +61,8 @@ const REENCODING: Work = Work {
     times: |input, turns| reencoding::SIDES.times(input, turns),
 };
 
+const WIDE: [Work; 2] = [Work { rows: rows::wide, ..ENCODING }, Work { rows: rows::wide, ..DECODING }];
+
 const SHORT: [usize; 1] = [10];
 const ALL: [usize; 2] = [10, 600];
 
@@ -73,13 +75,14 @@ fn main() {
         ["encode", "--short"] | ["--short", "encode"] => ENCODING.run(&SHORT),
         ["reencode"] => REENCODING.run(&ALL),
         ["reencode", "--short"] | ["--short", "reencode"] => REENCODING.run(&SHORT),
+        ["wide"] | ["wide", "--short"] | ["--short", "wide"] => WIDE.iter().for_each(|work| work.run(&SHORT)),
         ["frames"] => few_frames::run(&ALL[1..]),
         ["frames", "--short"] | ["--short", "frames"] => few_frames::run(&SHORT),
         ["floats"] => floats::WORK.run(&ALL),
         ["floats", "--short"] | ["--short", "floats"] => floats::WORK.run(&SHORT),
         ["peaks"] => peaks::run(&ALL[1..]),
         ["peaks", "--short"] | ["--short", "peaks"] => peaks::run(&SHORT),
-        _ => stop("usage: bench [encode|reencode|frames|floats|peaks] [--short]"),
+        _ => stop("usage: bench [encode|reencode|wide|frames|floats|peaks] [--short]"),
     };
 }
 

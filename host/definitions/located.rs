@@ -214,9 +214,15 @@ impl File<'_> {
 
 // ---- encoding
 
+/// The most channels that a writer takes, and the depths.
+type Limits = (u16, &'static [u16]);
+
+const ENCODER: Limits = (8, &[8, 16, 24, 32]);
+const REENCODER: Limits = (2, &[16, 24]);
+
 /// 30 to 33, which both writers begin with.
-fn accepted(samples: &[i32], channels: u16, depth: u16, rate: u32) -> Checked {
-    let settings = [1, 2].contains(&channels) && [16, 24].contains(&depth) && rate != 0;
+fn accepted((most, depths): Limits, samples: &[i32], channels: u16, depth: u16, rate: u32) -> Checked {
+    let settings = (1..=most).contains(&channels) && depths.contains(&depth) && rate != 0;
     NOWHERE.refuse(30, !settings)?;
     NOWHERE.refuse(31, samples.len() % usize::from(channels) != 0)?;
     NOWHERE.refuse(32, samples.iter().any(|sample| outside(*sample, depth)))?;
@@ -243,7 +249,7 @@ fn parity_differs(group: &[i32]) -> bool {
 }
 
 fn encoded(samples: &[i32], channels: u16, depth: u16, rate: u32, mode: u32) -> Checked {
-    accepted(samples, channels, depth, rate)?;
+    accepted(ENCODER, samples, channels, depth, rate)?;
     if mode != MID_SIDE {
         return Ok(());
     }
@@ -254,7 +260,7 @@ fn encoded(samples: &[i32], channels: u16, depth: u16, rate: u32, mode: u32) -> 
 // ---- re-encoding
 
 fn reencoded(samples: &[i32], channels: u16, depth: u16, rate: u32, template: &[u8]) -> Checked {
-    accepted(samples, channels, depth, rate)?;
+    accepted(REENCODER, samples, channels, depth, rate)?;
     let template = File::of(template)?;
     let call = (u64::from(channels), u64::from(depth), u64::from(rate), frames(samples, channels));
     NOWHERE.refuse(40, (template.channels, template.depth, template.rate, template.frames) != call)?;
@@ -398,7 +404,9 @@ mod tests {
         assert_eq!(encoding(&samples[1..], 2, 16, RATE, 2), at(31, 0, 0, 0));
         samples[4095] = 32_768;
         assert_eq!(encoding(&samples, 2, 16, RATE, 2), at(32, 0, 0, 0));
-        assert_eq!(encoding(&samples, 2, 8, RATE, 2), at(30, 0, 0, 0));
+        assert_eq!(encoding(&samples, 2, 9, RATE, 2), at(30, 0, 0, 0));
+        assert_eq!([encoding(&samples, 8, 32, RATE, 0), encoding(&[127, -128], 1, 8, RATE, 0)], [None; 2]);
+        assert_eq!(encoding(&samples[..9], 9, 32, RATE, 0), at(30, 0, 0, 0));
     }
 
     #[test]
@@ -428,6 +436,10 @@ mod tests {
         let mono = file(1, 513, &[block(2, 0), block(2, 1)]);
         assert_eq!(reencoding(&[0; 513], 1, 16, RATE, &mono), at(34, 0, 1, 0));
         assert_eq!(reencoding(&[0; 512], 1, 16, RATE, &mono), at(40, 0, 0, 0));
+        assert_eq!(
+            [(3, 16), (1, 8), (1, 32)].map(|(c, d)| reencoding(&[0; 513], c, d, RATE, &mono)),
+            [at(30, 0, 0, 0); 3]
+        );
     }
 
     /// Places of 36: the first by group, then channel, then place.

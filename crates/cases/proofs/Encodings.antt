@@ -39,9 +39,8 @@ ramp n = tab n (λ i. pos (i * 3))
 pub record Encodings : Type 0 where
   -- 30, 31, 32 each before what follows; 34 before 35
   pub no-channels : said (checkEncode (pcm 0 16) MidSide (pos 40000 ∷ [])) ≡ 30
-  pub three-channels : said (checkEncode (pcm 3 16) MidSide (pos 40000 ∷ [])) ≡ 30
-  pub depth-8 : said (checkEncode (pcm 2 8) MidSide (pos 40000 ∷ [])) ≡ 30
-  pub depth-32 : said (checkEncode (pcm 2 32) MidSide (pos 40000 ∷ [])) ≡ 30
+  pub nine-channels : said (checkEncode (pcm 9 16) MidSide (pos 40000 ∷ [])) ≡ 30
+  pub depth-12 : said (checkEncode (pcm 2 12) MidSide (pos 40000 ∷ [])) ≡ 30
   pub no-rate : said (checkEncode silent MidSide (pos 40000 ∷ [])) ≡ 30
   pub half-frame : said (checkEncode (pcm 2 16) MidSide (pos 40000 ∷ [])) ≡ 31
   pub too-high : said (checkEncode (pcm 2 16) MidSide (pos 32768 ∷ pos 1 ∷ [])) ≡ 32
@@ -98,9 +97,8 @@ unfolding document-01
 encodings =
     record {
       no-channels = refl;
-      three-channels = refl;
-      depth-8 = refl;
-      depth-32 = refl;
+      nine-channels = refl;
+      depth-12 = refl;
       no-rate = refl;
       half-frame = refl;
       too-high = refl;

@@ -59,7 +59,7 @@ pub record Numbered : Type 0 where
   pub mid-side-channels : number MidSideChannels ≡ 21
   -- bytes left in a group
   pub bytes-left : number BytesLeft ≡ 22
-  -- writer: channels not 1 or 2, depth not 16 or 24, or zero rate
+  -- writer: channels or depth that it does not take, or zero rate
   pub writer-spec : number WriterSpec ≡ 30
   -- incomplete frame
   pub incomplete-frame : number IncompleteFrame ≡ 31

@@ -188,9 +188,9 @@ checkSpec most depths spec =
     then refuse (not (isIn (spec .«bits_per_sample») depths)) WriterSpec  -- 30
     then refuse (eqb (spec .«sample_rate») 0) WriterSpec  -- 30
 
--- channels 1 or 2, depth 16 or 24
+-- 1 to 8 channels, and every depth: document 02, L4, "Eight channels, 8 and 32 bits"
 unfoldable pub checkEncoder : PcmSpec → Checked
-checkEncoder spec = checkSpec 2 (16 ∷ 24 ∷ []) spec
+checkEncoder spec = checkSpec 8 (8 ∷ 16 ∷ 24 ∷ 32 ∷ []) spec
 
 unfoldable pub checkSamples : PcmSpec → List ℤ → Checked
 checkSamples spec samples =

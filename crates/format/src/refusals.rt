@@ -120,7 +120,7 @@ impl Refusal {
             Refusal::FloatDiffers => 20, // float bit differs from the file's first block
             Refusal::MidSideChannels => 21, // mid/side without two channels
             Refusal::BytesLeft => 22, // bytes left in a group
-            Refusal::WriterSpec => 30, // writer: channels not 1 or 2, depth not 16 or 24, or zero rate
+            Refusal::WriterSpec => 30, // writer: channels or depth that it does not take, or zero rate
             Refusal::IncompleteFrame => 31, // incomplete frame
             Refusal::ValueOutside => 32, // value outside depth
             Refusal::TooManyFrames => 33, // over 4,294,967,295 frames

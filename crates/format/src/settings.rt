@@ -16,7 +16,8 @@ pub enum StereoMode {
     MidSide,
 }
 
-// What a writer is told of the samples. Both writers take mono and stereo, of 16 and of 24 bits.
+// What a writer is told of the samples. The encoder takes 1 to 8 channels and every depth, the re-encoder mono and
+// stereo of 16 and of 24 bits.
 pub struct PcmSpec {
     pub channels: u16,
     pub bits_per_sample: u16,

@@ -71,7 +71,7 @@ module _ (B : ℕ) where
   num-digits pos (suc n) N =
       ap (λ (x : ℕ). x * B + N % B) (num-digits pos n (N / B)) ∙ sym (mod-mul N (one-le-pow n B pos) pos) ∙ ap (λ (x : ℕ). N % x) (sym (pow-suc B n))
 
-  digits-below : 0 < B → (n N : ℕ) → Below B (digits B n N)
+  pub digits-below : 0 < B → (n N : ℕ) → Below B (digits B n N)
   unfolding digits
   digits-below pos zero N i = pos
   digits-below pos (suc n) N zero = mod-lt N pos

@@ -100,14 +100,14 @@ module _ (H : ℕ) (top : H ≤ 2 ^ 31) (l r : ℤ) (f : mag l < H) (g : mag r <
       (omega (arith, mid-twice, side-twice))
 
   -- mid plus side and mid minus side are l and r, without wrapping
-  sum-is : mid l r +ℤ side l r ≡ l
+  pub sum-is : mid l r +ℤ side l r ≡ l
   sum-is =
       let m = mid l r in
       let s = side l r in
       let a = up-add m s (omega (arith, low-mid)) (omega (arith, low-side)) in
       up-inj (m +ℤ s) l (omega (arith, mag-add (2 ^ 31) m s (omega arith) (omega (arith, low-mid)) (omega (arith, low-side)))) (omega arith) (omega (arith, mid-twice, side-twice))
 
-  difference-is : mid l r -ℤ side l r ≡ r
+  pub difference-is : mid l r -ℤ side l r ≡ r
   difference-is =
       let m = mid l r in
       let s = side l r in

@@ -73,7 +73,7 @@ valid most depths p ok all =
     }
 
 -- the two writers; how many channels each takes stands here, and nowhere else
-pub encoder-ok : (p : PcmSpec) → checkEncoder p ≡ Fine → Valid 2 p
+pub encoder-ok : (p : PcmSpec) → checkEncoder p ≡ Fine → Valid 8 p
 unfolding checkEncoder every isDepth depthWord
 encoder-ok p ok = valid _ _ p ok refl
 

@@ -51,7 +51,7 @@ module _ (base bits : ℤ) (flags : ℕ) (run : List ℕ) where
     unfolding numAt from blockBytes blockMark le digits
     base-read = refl
 
-    bits-read : numAt 8 2 (blockBytes base bits flags run ++ t) ≡ num 256 (le 2 (codeOf 16 bits))
+    pub bits-read : numAt 8 2 (blockBytes base bits flags run ++ t) ≡ num 256 (le 2 (codeOf 16 bits))
     unfolding numAt from blockBytes blockMark le digits
     bits-read = refl
 

@@ -72,7 +72,7 @@ module _ (h : Fields) (g flags : ℕ) (chans : List (List ℤ)) (some : 1 ≤ h 
       })
 
 -- where mid/side is taken, it can be
-mid-when : (mode : StereoMode) (n depth : ℕ) (s : List ℤ) → takesMid mode n depth s ≡ true → (mode ≡ MidSide → (n ≡ 2) × (parity (unwoven n s) ≡ true))
+pub mid-when : (mode : StereoMode) (n depth : ℕ) (s : List ℤ) → takesMid mode n depth s ≡ true → (mode ≡ MidSide → (n ≡ 2) × (parity (unwoven n s) ≡ true))
     → (n ≡ 2) × (parity (unwoven n s) ≡ true)
 unfolding takesMid
 mid-when Direct n depth s e ms = never (sym e)

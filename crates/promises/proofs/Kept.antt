@@ -40,7 +40,7 @@ head-take (suc n) base (v ∷ vs) p q = refl
 
 -- the values and the base stay
 module _ (base : ℤ) (fb : SFits w32 base) (run : List ℕ) (xs : List ℤ) (some : 1 ≤ length xs) where
-  values-kept : (k : Coding) → isBeyond k ≡ false → 1 ≤ widthOf k → widthOf k ≤ 32 → xs ≡ take (length xs) (decoded k base run)
+  pub values-kept : (k : Coding) → isBeyond k ≡ false → 1 ≤ widthOf k → widthOf k ≤ 32 → xs ≡ take (length xs) (decoded k base run)
       → newValues k (decoded k base run) run xs ≡ values (widthOf k) (take (64 * widthOf k) run)
   unfolding decoded isBeyond widthOf
   values-kept (Raw b) e l u q =

@@ -1,10 +1,12 @@
 -- The demands, each one theorem with a name: read these first.
 pub mod Demands
 pub mod Hosts
+pub mod OwnTemplates
 pub mod Certain
 pub mod Contents
 pub mod Walks
 pub mod FewFrames
+pub mod EightChannels
 pub mod LostFrames
 pub mod Peaks
 pub mod Places
@@ -31,6 +33,8 @@ pub mod Kept
 pub mod NewGroups
 pub mod Refile
 pub mod Again
+-- a file that encoding wrote, as a template
+pub mod OwnTemplatesLaws
 -- parity; what did not fit; the walk; a few frames
 pub mod ParityLaws
 pub mod Misfits

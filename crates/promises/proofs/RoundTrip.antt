@@ -39,15 +39,15 @@ module _ (p : PcmSpec) (mode : StereoMode) (s : List ℤ) (ok : checkEncode p mo
   abbrev part : ℕ → List ℕ
   part = encodedGroupAt p mode s
 
-  abbrev h : Fields
+  abbrev pub h : Fields
   h = head p frames part
 
   -- ---- what passed
-  writer-ok : checkEncoder p ≡ Fine
+  pub writer-ok : checkEncoder p ≡ Fine
   unfolding checkEncode
   writer-ok = first-fine _ _ ok
 
-  samples-ok : checkSamples p s ≡ Fine
+  pub samples-ok : checkSamples p s ≡ Fine
   unfolding checkEncode
   samples-ok = first-fine _ _ (others-fine _ _ ok)
 
@@ -66,7 +66,7 @@ module _ (p : PcmSpec) (mode : StereoMode) (s : List ℤ) (ok : checkEncode p mo
   abbrev odd : ℕ → Bool
   odd g = not (parity (unwoven (p .channels) (groupIn (p .channels) s g)))
 
-  mid-ok : (g : ℕ) → g < groupsOf frames → mode ≡ MidSide → (p .channels ≡ 2) × (parity (unwoven (p .channels) (groupIn (p .channels) s g)) ≡ true)
+  pub mid-ok : (g : ℕ) → g < groupsOf frames → mode ≡ MidSide → (p .channels ≡ 2) × (parity (unwoven (p .channels) (groupIn (p .channels) s g)) ≡ true)
   unfolding checkStereo isMidSide
   mid-ok g l e =
       let m : isMidSide mode ≡ true = ap isMidSide e in

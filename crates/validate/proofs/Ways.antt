@@ -1,7 +1,7 @@
 -- What each check of a writer's settings and samples answers at each way out, from what the calls' contracts and the tests give.
 use Prim.Native.Nat.{ℕ, _*_, _/_, _%_, _<_, _≤_}
 use mathlib.Core.Path.{_≡_, refl, sym, ap, _∙_}
-use mathlib.Core.Bool.{Bool, true, false, not, cond}
+use mathlib.Core.Bool.{Bool, true, false, not, _||_, cond}
 use mathlib.Core.List.{List, [], _∷_}
 use native.Mathlib.Omega.{arith}
 use native.Mathlib.Nat.{div-add-mod}
@@ -10,7 +10,7 @@ use lib.IntN.{ℤ}
 use lib.Dec.{eqb, ltb}
 use borrow.Author.Tests.{le-ltb, eq-eqb, ne-eqb}
 use Rattle.format.specs.Lists.{every, isIn}
-use Rattle.format.specs.Units.{within, depthOf, framesIn}
+use Rattle.format.specs.Units.{within, depthWord, isKnown, depthOf, framesIn}
 use Rattle.format.specs.Refusals.{nowhere, refuse, _then_}
 use Rattle.format.specs.Encoding.{checkSamples}
 use Rattle.format.specs.declared.refusals.Refusal.{Refusal}
@@ -20,6 +20,9 @@ use Rattle.format.specs.declared.refusals.Checked.{Checked}
 use Rattle.format.specs.declared.refusals.Checked.the-variants.{Fine, No}
 use Rattle.format.specs.declared.settings.PcmSpec.{PcmSpec}
 use Rattle.format.specs.declared.units.Depth.{Depth}
+use Rattle.format.specs.declared.units.Depth.the-variants.{Eight, Sixteen, TwentyFour, ThirtyTwo}
+use Rattle.format.specs.declared.units.DepthWord.{DepthWord}
+use Rattle.format.specs.declared.units.DepthWord.the-variants.{Known, Unknown}
 use Rattle.format.specs.declared.units.Frames.{Frames}
 use Rattle.format.specs.declared.units.Framed.{Framed}
 use Rattle.format.specs.declared.units.Framed.the-variants.{Whole, Incomplete, TooMany}
@@ -38,6 +41,27 @@ module _ (b : ℕ) where
   pub is-other : (b ≡ 16 → ⊥) → (b ≡ 24 → ⊥) → false ≡ isIn b (16 ∷ 24 ∷ [])
   unfolding isIn
   is-other p q = rw (ne-eqb b 16 p, ne-eqb b 24 q)
+
+  -- all depths that are known are listed
+  all-listed : isKnown (depthWord b) ≡ isIn b (8 ∷ 16 ∷ 24 ∷ 32 ∷ [])
+  unfolding depthWord isIn
+  all-listed = by (eqb b 8) (eqb b 16) (eqb b 24) (eqb b 32)
+    where
+      by : (p q r s : Bool)
+          → isKnown (cond p (Known Eight) (cond q (Known Sixteen) (cond r (Known TwentyFour) (cond s (Known ThirtyTwo) Unknown))))
+          ≡ (p || (q || (r || (s || false))))
+      by true q r s = refl
+      by false true r s = refl
+      by false false true s = refl
+      by false false false true = refl
+      by false false false false = refl
+
+  module _ (w : DepthWord) (says : w ≡ depthWord b) where
+    pub is-known : (d : Depth) → w ≡ Known d → true ≡ isIn b (8 ∷ 16 ∷ 24 ∷ 32 ∷ [])
+    is-known d e = ap isKnown (sym e ∙ says) ∙ all-listed
+
+    pub is-unknown : w ≡ Unknown → false ≡ isIn b (8 ∷ 16 ∷ 24 ∷ 32 ∷ [])
+    is-unknown e = ap isKnown (sym e ∙ says) ∙ all-listed
 
 -- ---- frames
 module _ (n m channels : ℕ) (counts : n ≡ m) where

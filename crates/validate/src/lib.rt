@@ -2,6 +2,7 @@
 // settings are not a writer's; 31: the last frame is incomplete; 32: a value is outside the depth; 33: too many frames.
 use format::Checked;
 use format::Depth;
+use format::DepthWord;
 use format::Framed;
 use format::Frames;
 use format::NOWHERE;
@@ -42,8 +43,18 @@ fn check_spec(p: PcmSpec, most: u16, listed: bool) -> Checked
     Checked::Fine
 }
 
-// The depths that both writers take.
-fn writer_depth(bits: u16) -> bool
+// The depths that the encoder takes: all there are.
+fn encoder_depth(bits: u16) -> bool
+    ensures { λ r. ⌜ r ≡ isIn bits (8 ∷ 16 ∷ 24 ∷ 32 ∷ []) ⌝ }
+{
+    match Depth::from_bits(bits) {
+        DepthWord::Known(_) => true,
+        DepthWord::Unknown => false,
+    }
+}
+
+// The depths that the re-encoder takes.
+fn reencoder_depth(bits: u16) -> bool
     ensures { λ r. ⌜ r ≡ isIn bits (16 ∷ 24 ∷ []) ⌝ }
 {
     match bits {
@@ -57,15 +68,14 @@ fn writer_depth(bits: u16) -> bool
 pub fn check_encoder(p: PcmSpec) -> Checked
     ensures { λ r. ⌜ r ≡ checkEncoder p ⌝ }
 {
-    check_spec(p, 2, writer_depth(p.bits_per_sample))
+    check_spec(p, 8, encoder_depth(p.bits_per_sample))
 }
 
 // The re-encoder's 30, with limits of its own.
 pub fn check_reencoder(p: PcmSpec) -> Checked
     ensures { λ r. ⌜ r ≡ checkReencoder p ⌝ }
 {
-    let listed = writer_depth(p.bits_per_sample);
-    check_spec(p, 2, listed)
+    check_spec(p, 2, reencoder_depth(p.bits_per_sample))
 }
 
 fn framed(which: Container, words: &[i32], bytes: &[u8], channels: u16) -> Framed

@@ -1,4 +1,4 @@
--- The encoder's depths are the two that the call lists.
+-- The encoder's depths are the four that the call lists.
 use mathlib.Core.List.{[], _∷_}
 use borrow.Author.Needs.{needs}
 use Rattle.format.specs.Encoding.{checkEncoder}
@@ -7,7 +7,7 @@ use Rattle.validate.proofs.check_encoder.Tie as tie
 
 returns : tie.Need-returns
 unfolding checkEncoder
-returns c = c .check-spec .ensures (16 ∷ 24 ∷ []) (c .before .writer-depth .ensures)
+returns c = c .check-spec .ensures (8 ∷ 16 ∷ 24 ∷ 32 ∷ []) (c .before .encoder-depth .ensures)
 
 pub check-encoder-spec : {M : Type 1} → statement M
 check-encoder-spec =

@@ -7,7 +7,7 @@ use Rattle.validate.proofs.check_reencoder.Tie as tie
 
 returns : tie.Need-returns
 unfolding checkReencoder
-returns c = c .check-spec .ensures (16 ∷ 24 ∷ []) (c .before .writer-depth .ensures)
+returns c = c .check-spec .ensures (16 ∷ 24 ∷ []) (c .before .reencoder-depth .ensures)
 
 pub check-reencoder-spec : {M : Type 1} → statement M
 check-reencoder-spec =
