@@ -5,8 +5,8 @@ use mathlib.Core.Bool.{true, false}
 use mathlib.Core.List.{List, [], _∷_}
 use lib.ListN.{length, replicate, drop}
 use lib.IntN.{ℤ, pos, negsuc}
-use Rattle.format.specs.Lists.{tab, joined}
-use Rattle.format.specs.Numbers.{le, numAt}
+use Rattle.format.specs.Lists.{joined}
+use Rattle.format.specs.Numbers.{le}
 use Rattle.format.specs.Blocks.{baseOf, bitsOf}
 use Rattle.format.specs.Answers.{wrote}
 use Rattle.format.specs.Encoding.{differences, leastWidth, mid, side, takesMid, encodedGroup, encodedFile, checkEncode, encodeOf}

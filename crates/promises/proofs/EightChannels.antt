@@ -3,7 +3,7 @@
 use Prim.Native.Nat.{ℕ, _+_, _*_, _/_, _^_, _<_, _≤_}
 use mathlib.Core.Path.{_≡_, refl, sym, ap, ap₂, _∙_, subst, fun-ext}
 use mathlib.Core.Logic.{_≢_}
-use mathlib.Core.Bool.{Bool, true, false, not, _&&_, cond}
+use mathlib.Core.Bool.{Bool, true, false, not, cond}
 use mathlib.Core.List.{List, [], _∷_}
 use native.Mathlib.Nat.{add-mul}
 use native.Mathlib.Omega.{arith}
@@ -18,7 +18,7 @@ use Rattle.format.specs.Numbers.{Below, numAt, value, holds}
 use Rattle.format.specs.Header.{fieldsOf, groupsOf, groupBytes}
 use Rattle.format.specs.Units.{within, depthWord, depthOf}
 use Rattle.format.specs.Refusals.{number, refuse, _then_, inOrder}
-use Rattle.format.specs.Places.{atGroup, atChannel, inGroup}
+use Rattle.format.specs.Places.{located, atGroup, atChannel, inGroup}
 use Rattle.format.specs.Answers.{answered, filled}
 use Rattle.format.specs.Encoding.{differences, leastWidth, encodedBlock, blocks, mid, side, midSide, paddedChannels, equalParity, framesOf, takesMid, isMidSide, encodedGroup, groupIn, encodedGroupAt, assembled, encodedFile, checkSpec, checkEncoder, checkSamples, checkStereo, checkDataSize, checkSize, checkEncode, checkEncodeInto, encodeOf, encodeInto}
 use Rattle.format.specs.Reencoding.{checkTemplate, checkReencoder, checkReencode, checkReencodeGroup, checkReencodeInto, reencodeOf}
@@ -35,7 +35,7 @@ use Rattle.format.specs.declared.settings.StereoMode.{StereoMode}
 use Rattle.format.specs.declared.settings.StereoMode.the-variants.{Auto, Direct, MidSide}
 use Rattle.format.specs.declared.answers.Answer.{Answer}
 use Rattle.format.specs.declared.answers.Outcome.the-variants.{Wrote, Refused}
-use Rattle.laws.proofs.Tests.{never, and-left}
+use Rattle.laws.proofs.Tests.{never, and-left, and-right}
 use Rattle.format.proofs.UnitLaws.{within-holds}
 use Rattle.laws.proofs.Checks.{pass, passed, _and-then_, then-assoc, first-fine, others-fine, has-room}
 use Rattle.laws.proofs.Each.{each-tab}
@@ -44,8 +44,34 @@ use Rattle.laws.proofs.Reading.{number-lt}
 use Rattle.laws.proofs.Parts.{length-tab, length-most}
 use Rattle.laws.proofs.Written.{widthIn, block-size, assembled-length}
 use Rattle.laws.proofs.Halves.{sum-is, difference-is, mid-range, side-range}
-use Rattle.laws.proofs.Located.{Says, says-fine, says-refuse, _says-then_, _and-says_, Passes, passes-unsaid, each-passes, only-says, spec-says, samples-say, template-says, reencode-block-says}
+use Rattle.laws.proofs.Located.{Says, says-fine, says-refuse, _says-then_, _and-says_, Only, Passes, passes-unsaid, each-passes, only-says, spec-says, samples-say, template-says, reencode-block-says}
 use Rattle.promises.proofs.Outcomes.{Exactly, exactly-number, host-number}
+
+-- ---- checks that refuse by other numbers than n
+abbrev Other : ℕ → Checked → Type 0
+Other n c = Says (Passes (λ m. not (eqb m n))) c
+
+module _ (n : ℕ) where
+  one : (b : Bool) (x : Refusal) → not (eqb (number x) n) ≡ true → Other n (refuse b x)
+  one b x ok = says-refuse (Passes (λ m. not (eqb m n))) b x ok
+
+  some : (ns : List ℕ) (c : Checked) → Says (Only ns) c → every (λ m. not (eqb m n)) ns ≡ true → Other n c
+  some ns c says all = only-says ns c says (Passes (λ m. not (eqb m n))) (λ m. not (eqb m n)) all (λ x q. q)
+
+  none : (c : Checked) → c ≡ Fine → Other n c
+  none c fine = subst (Other n) (sym fine) (says-fine (Passes (λ m. not (eqb m n))))
+
+  -- each in its place
+  each : (check : ℕ → Checked) (move : ℕ → Place → Place) (k : ℕ) → ((i : ℕ) → Other n (check i)) → Other n (inOrder (λ i. located (move i) (check i)) k)
+  each = each-passes (λ m. not (eqb m n))
+
+  -- the checks of encoding behind 31 to 33, without the room
+  late : (p : PcmSpec) (mode : StereoMode) (s : List ℤ) → every (λ m. not (eqb m n)) (34 ∷ 35 ∷ 37 ∷ []) ≡ true → Other n (checkStereo p mode s then checkSize p mode s)
+  unfolding checkStereo checkSize every
+  late p mode s all =
+      let rest = and-right (not (eqb 34 n)) _ all in
+      (one _ _ (and-left _ _ all) and-says each _ atGroup (groupsOf (framesOf p s)) (λ g. one _ _ (and-left _ _ rest)))
+      and-says one _ _ (and-left _ _ (and-right (not (eqb 35 n)) _ rest))
 
 -- ---- 30: WHAT EACH WRITER TAKES
 
@@ -89,7 +115,7 @@ module _ (most : ℕ) (depths : List ℕ) (p : PcmSpec) where
       one _ and-says one _ and-says one _ and-says one _
 
   -- and then other checks, which never say it
-  module _ (others : Checked) (unsaid : Says (Passes (λ n. not (eqb n 30))) others) where
+  module _ (others : Checked) (unsaid : Other 30 others) where
     spec-first : Exactly ((at : Place) × ((checkSpec most depths p then others) ≡ No WriterSpec at)) (Taken most depths p → ⊥)
     unfolding _then_
     spec-first = (
@@ -101,19 +127,6 @@ module _ (most : ℕ) (depths : List ℕ) (p : PcmSpec) where
         by none Fine e = absurd (none (fine-taken e))
         by none (No r at) e = (at, ap (λ (c : Checked). c then others) (e ∙ ap (λ (x : Refusal). No x at) (says-30 r at e)))
 
--- the checks of encoding behind 31 to 33 say only these
-module _ (test : ℕ → Bool) (not-34 : test 34 ≡ true) (not-35 : test 35 ≡ true) (not-37 : test 37 ≡ true) where
-  one : (b : Bool) (x : Refusal) → test (number x) ≡ true → Says (Passes test) (refuse b x)
-  one b x ok = says-refuse (Passes test) b x ok
-
-  stereo-passes : (p : PcmSpec) (mode : StereoMode) (s : List ℤ) → Says (Passes test) (checkStereo p mode s)
-  unfolding checkStereo
-  stereo-passes p mode s = one _ _ not-34 and-says each-passes test _ atGroup (groupsOf (framesOf p s)) (λ g. one _ _ not-35)
-
-  late-passes : (p : PcmSpec) (mode : StereoMode) (s : List ℤ) → Says (Passes test) (checkStereo p mode s then checkSize p mode s)
-  unfolding checkSize
-  late-passes p mode s = stereo-passes p mode s and-says one _ _ not-37
-
 -- encoding refuses 30 exactly where there are not 1 to 8 channels, or the depth is not 8, 16, 24 or 32, or there is no
 -- rate
 pub encoder-takes : (p : PcmSpec) (mode : StereoMode) (s : List ℤ) (lent after : List ℕ) (r : Answer)
@@ -121,52 +134,44 @@ pub encoder-takes : (p : PcmSpec) (mode : StereoMode) (s : List ℤ) (lent after
     → Exactly (r .outcome ≡ Refused WriterSpec) (Taken 8 (8 ∷ 16 ∷ 24 ∷ 32 ∷ []) p → ⊥)
 unfolding encodeOf checkEncodeInto checkEncode checkEncoder every
 encoder-takes p mode s lent after r e =
-    let other : ℕ → Bool = λ n. not (eqb n 30) in
     let behind = checkSamples p s then checkStereo p mode s then checkSize p mode s in
     let room = refuse (ltb (length lent) (length (encodedFile p mode s))) OutputTooShort in
-    let unsaid : Says (Passes other) (behind then room) =
-    (only-says (31 ∷ 32 ∷ 33 ∷ []) _ (samples-say p s) (Passes other) other refl (λ x q. q) and-says late-passes other refl refl refl p mode s)
-    and-says says-refuse (Passes other) _ OutputTooShort refl in
+    let unsaid : Other 30 (behind then room) = (some 30 _ _ (samples-say p s) refl and-says late 30 p mode s refl) and-says one 30 _ OutputTooShort refl in
     let first = spec-first 8 (8 ∷ 16 ∷ 24 ∷ 32 ∷ []) p (behind then room) unsaid in
     let q = exactly-number (checkEncodeInto p mode s (length lent)) (Wrote (length (encodedFile p mode s))) refl WriterSpec r (e .0) in
     let same = then-assoc (checkEncoder p) behind room in
     (λ x. let n = q .0 x in first .0 (n .0, sym same ∙ n .1), λ none. let n = first .1 none in q .1 (n .0, same ∙ n .1))
 
--- re-encoding refuses 30 exactly where it did before: not 1 or 2 channels, or the depth is not 16 or 24, or no rate
-again-passes : (depth channels : ℕ) (old : List ℕ) (new : List ℤ) → Says (Passes (λ n. not (eqb n 30))) (checkReencodeGroup depth channels old new)
+group-other : (depth channels : ℕ) (old : List ℕ) (new : List ℤ) → Other 30 (checkReencodeGroup depth channels old new)
 unfolding checkReencodeGroup every
-again-passes depth channels old new =
-    let other : ℕ → Bool = λ n. not (eqb n 30) in
-    says-refuse (Passes other) _ _ refl
-    and-says says-refuse (Passes other) _ _ refl
-    and-says says-refuse (Passes other) _ _ refl
-    and-says each-passes other _ atChannel channels (λ c. only-says (1 ∷ 3 ∷ 44 ∷ 45 ∷ 4 ∷ 36 ∷ []) _ (reencode-block-says depth _ _) (Passes other) other refl (λ x q. q))
-    and-says says-refuse (Passes other) _ _ refl
+group-other depth channels old new =
+    one 30 _ _ refl
+    and-says one 30 _ _ refl
+    and-says one 30 _ _ refl
+    and-says each 30 _ atChannel channels (λ c. some 30 _ _ (reencode-block-says depth _ _) refl)
+    and-says one 30 _ _ refl
 
+-- re-encoding refuses 30 exactly where it did before: not 1 or 2 channels, or the depth is not 16 or 24, or no rate
 pub reencoder-takes : (p : PcmSpec) (s : List ℤ) (t lent after : List ℕ) (r : Answer)
     → Reencodes p s t lent r after
     → Exactly (r .outcome ≡ Refused WriterSpec) (Taken 2 (16 ∷ 24 ∷ []) p → ⊥)
 unfolding reencodeOf checkReencodeInto checkReencode checkReencoder every
 reencoder-takes p s t lent after r e =
-    let other : ℕ → Bool = λ n. not (eqb n 30) in
     let h = fieldsOf t in
     let group : ℕ → Checked = λ g. checkReencodeGroup (h .depth) (h .channels) (groupBytes t h g) (groupIn (h .channels) s g) in
     let behind = checkSamples p s then checkTemplate p s t then inOrder (λ g. inGroup g (group g)) (groupsOf (h .frames)) in
     let room = refuse (ltb (length lent) (length t)) OutputTooShort in
-    let unsaid : Says (Passes other) (behind then room) =
-    (only-says (31 ∷ 32 ∷ 33 ∷ []) _ (samples-say p s) (Passes other) other refl (λ x q. q)
-    and-says only-says (1 ∷ 2 ∷ 40 ∷ 41 ∷ 42 ∷ []) _ (template-says p s t) (Passes other) other refl (λ x q. q)
-    and-says each-passes other group atGroup (groupsOf (h .frames)) (λ g. again-passes (h .depth) (h .channels) (groupBytes t h g) (groupIn (h .channels) s g)))
-    and-says says-refuse (Passes other) _ OutputTooShort refl in
+    let unsaid : Other 30 (behind then room) =
+    (some 30 _ _ (samples-say p s) refl
+    and-says some 30 _ _ (template-says p s t) refl
+    and-says each 30 group atGroup (groupsOf (h .frames)) (λ g. group-other (h .depth) (h .channels) (groupBytes t h g) (groupIn (h .channels) s g)))
+    and-says one 30 _ OutputTooShort refl in
     let first = spec-first 2 (16 ∷ 24 ∷ []) p (behind then room) unsaid in
     let q = exactly-number (checkReencodeInto p s t (length lent)) (Wrote (length t)) refl WriterSpec r (e .0) in
     let same = then-assoc (checkReencoder p) behind room in
     (λ x. let n = q .0 x in first .0 (n .0, sym same ∙ n .1), λ none. let n = first .1 none in q .1 (n .0, same ∙ n .1))
 
 -- ---- what encoding's checks never say, encoding never answers
-abbrev Other : ℕ → Checked → Type 0
-Other n c = Says (Passes (λ m. not (eqb m n))) c
-
 module _ (p : PcmSpec) (x : Refusal) where
   never-answered : (mode : StereoMode) (s : List ℤ) (lent after : List ℕ) (r : Answer) → not (eqb (number x) (number x)) ≡ false → Other (number x) (checkEncodeInto p mode s (length lent))
       → Encodes p mode s lent r after → r .outcome ≢ Refused x
@@ -180,15 +185,14 @@ module _ (p : PcmSpec) (x : Refusal) where
       → HostEncodes b p mode lent r after → r ≢ 2 ^ 63 + number x
   unfolding hostEncode checkHostEncode checkEncodeInto checkMode checkBytes
   host-never-answered mode b lent after r itself not-38 not-39 unsaid short e said =
-      let other : ℕ → Bool = λ m. not (eqb m (number x)) in
       let s = samplesFrom b in
       let file = encodedFile p (modeOf mode) s in
       let c = checkHostEncode b p mode (length lent) in
       let few : c ≡ Fine → length file < 2 ^ 63 =
       λ fine. let l = has-room (checkEncode p (modeOf mode) s) (length lent) (length file) OutputTooShort (others-fine _ _ (others-fine _ _ fine)) in omega arith in
       let n = host-number c (Wrote (length file)) few (number x) r (e .0) said in
-      let passes : Says (Passes other) c = says-refuse (Passes other) _ _ not-38 and-says says-refuse (Passes other) _ _ not-39 and-says unsaid in
-      never (sym (passes (n .0) (n .1) (n .3)) ∙ ap other (n .2) ∙ itself)
+      let passes : Other (number x) c = one (number x) _ _ not-38 and-says one (number x) _ _ not-39 and-says unsaid in
+      never (sym (passes (n .0) (n .1) (n .3)) ∙ ap (λ (m : ℕ). not (eqb m (number x))) (n .2) ∙ itself)
 
 -- ---- 32 AT DEPTH 32
 
@@ -204,20 +208,13 @@ module _ (p : PcmSpec) (s : List ℤ) (deep : p .«bits_per_sample» ≡ 32) (al
   unfolding depthOf depthWord
   inside = ap (λ (b : ℕ). every (within (depthOf b)) s) deep ∙ ap (λ (f : ℤ → Bool). every f s) (fun-ext (within-holds ThirtyTwo)) ∙ all
 
-  values-pass : Says (Passes (λ n. not (eqb n 32))) (checkSamples p s)
-  unfolding checkSamples
-  values-pass =
-      let other : ℕ → Bool = λ n. not (eqb n 32) in
-      says-refuse (Passes other) _ _ refl
-      and-says subst (Says (Passes other)) (sym (pass _ ValueOutside (ap not inside))) (says-fine (Passes other))
-      and-says says-refuse (Passes other) _ _ refl
-
   outside-unsaid : (mode : StereoMode) (room : ℕ) → Other 32 (checkEncodeInto p mode s room)
-  unfolding checkEncodeInto checkEncode checkEncoder every
+  unfolding checkEncodeInto checkEncode checkEncoder checkSamples every
   outside-unsaid mode room =
-      let other : ℕ → Bool = λ n. not (eqb n 32) in
-      (only-says (30 ∷ []) _ (spec-says 8 _ p) (Passes other) other refl (λ x q. q) and-says values-pass and-says late-passes other refl refl refl p mode s)
-      and-says says-refuse (Passes other) _ OutputTooShort refl
+      (some 32 _ _ (spec-says 8 _ p) refl
+      and-says (one 32 _ _ refl and-says none 32 _ (pass _ ValueOutside (ap not inside)) and-says one 32 _ _ refl)
+      and-says late 32 p mode s refl)
+      and-says one 32 _ OutputTooShort refl
 
 -- samples of 32 bits, as their type says, are never refused by 32 at depth 32
 pub none-outside : (p : PcmSpec) (mode : StereoMode) (s : List ℤ) (lent after : List ℕ) (r : Answer)
@@ -352,12 +349,9 @@ module _ (p : PcmSpec) (mode : StereoMode) (s : List ℤ) (stereo : checkStereo 
 room-unsaid : (p : PcmSpec) (mode : StereoMode) (s : List ℤ) (room : ℕ) → longest p s ≤ room → Other 50 (checkEncodeInto p mode s room)
 unfolding checkEncodeInto checkEncode checkEncoder every
 room-unsaid p mode s room enough =
-    let other : ℕ → Bool = λ n. not (eqb n 50) in
-    (only-says (30 ∷ []) _ (spec-says 8 _ p) (Passes other) other refl (λ x q. q)
-    and-says only-says (31 ∷ 32 ∷ 33 ∷ []) _ (samples-say p s) (Passes other) other refl (λ x q. q)
-    and-says late-passes other refl refl refl p mode s)
+    (some 50 _ _ (spec-says 8 _ p) refl and-says some 50 _ _ (samples-say p s) refl and-says late 50 p mode s refl)
     says-then (λ fine. let fits = file-most p mode s (first-fine _ _ (others-fine _ _ (others-fine _ _ fine))) in
-    subst (Says (Passes other)) (sym (pass _ OutputTooShort (le-ltb room (length (encodedFile p mode s)) (omega arith)))) (says-fine (Passes other)))
+    none 50 _ (pass _ OutputTooShort (le-ltb room (length (encodedFile p mode s)) (omega arith))))
 
 -- so much room is enough, whatever the samples are: 50 is never said
 pub room-enough : (p : PcmSpec) (mode : StereoMode) (s : List ℤ) (lent after : List ℕ) (r : Answer)
@@ -366,6 +360,7 @@ pub room-enough : (p : PcmSpec) (mode : StereoMode) (s : List ℤ) (lent after :
     → r .outcome ≢ Refused OutputTooShort
 room-enough p mode s lent after r enough = never-answered p OutputTooShort mode s lent after r refl (room-unsaid p mode s (length lent) enough)
 
+-- at the host boundary
 pub host-room-enough : (b : List ℕ) (p : PcmSpec) (mode : ℕ) (lent after : List ℕ) (r : ℕ)
     → longest p (samplesFrom b) ≤ length lent
     → length lent < 2 ^ 63

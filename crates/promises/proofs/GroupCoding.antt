@@ -1,7 +1,7 @@
 -- A group of samples, encoded in any mode, decodes to itself: mid/side is taken only where every frame has equal
 -- parity, and padded frames are not read.
 use Prim.Native.Nat.{ℕ, _*_, _%_, _≤_, _<_}
-use mathlib.Core.Path.{_≡_, refl, sym, ap, ap₂, _∙_, subst, subst₂}
+use mathlib.Core.Path.{_≡_, refl, sym, ap, ap₂, _∙_, subst}
 use mathlib.Core.Bool.{Bool, true, false, cond}
 use mathlib.Core.List.{List, [], _++_}
 use native.Mathlib.Omega.{arith}
@@ -14,7 +14,7 @@ use Rattle.format.specs.Blocks.{isBlock, midBit, floatBit}
 use Rattle.format.specs.MidSide.{leftRight}
 use Rattle.format.specs.Units.{active}
 use Rattle.format.specs.Decoding.{checkGroup, coded, channelsOf, woven, groupSamples}
-use Rattle.format.specs.Encoding.{encodedBlock, midSide, parity, channel, unwoven, paddedChannels, blocks, takesMid, encodedGroup}
+use Rattle.format.specs.Encoding.{encodedBlock, midSide, parity, unwoven, paddedChannels, blocks, takesMid, encodedGroup}
 use Rattle.format.specs.declared.refusals.Checked.the-variants.{Fine}
 use Rattle.format.specs.declared.settings.SampleFormat.the-variants.{Pcm}
 use Rattle.format.specs.declared.settings.PcmSpec.{PcmSpec}
@@ -24,10 +24,9 @@ use Rattle.format.specs.declared.answers.Fields.{Fields}
 use Rattle.laws.proofs.Tests.{and-left, and-right, never}
 use Rattle.laws.proofs.Parts.{is-tab}
 use Rattle.laws.proofs.Signs.{AllHold}
-use Rattle.laws.proofs.Halves.{Even, even-padded}
 use Rattle.promises.proofs.BlockLaws.{Reads, block-reads}
-use Rattle.laws.proofs.Channels.{Level, channel-length, unwoven-is, padded-channels-is, padded-channels-level, woven-padded, active-low}
-use Rattle.laws.proofs.Stereo.{both-level, both-back}
+use Rattle.laws.proofs.Channels.{Level, padded-channels-level, woven-padded, active-low}
+use Rattle.laws.proofs.Stereo.{both-level, both-back, parity-padded}
 use Rattle.promises.proofs.GroupLaws.{coded-is, group-fine, first-flags, first-mark, first-pcm, group-long}
 
 -- what reading says of a group's bytes: the samples xs, and nothing refused
@@ -79,6 +78,10 @@ mid-when Direct n depth s e ms = never (sym e)
 mid-when MidSide n depth s e ms = ms refl
 mid-when Auto n depth s e ms = (eqb-true n 2 (and-left _ _ e), and-left _ _ (and-right (eqb n 2) _ e))
 
+-- the padded frames have the parity of the last
+pub padded-even : (n : ℕ) (s : List ℤ) → n ≡ 2 → parity (unwoven n s) ≡ true → parity (paddedChannels n s) ≡ true
+padded-even n s two = subst (λ (x : ℕ). parity (unwoven x s) ≡ true → parity (paddedChannels x s) ≡ true) (sym two) (λ e. parity-padded s ∙ e)
+
 -- ---- the group of samples s, of a file with the numbers h
 module _ (p : PcmSpec) (mode : StereoMode) (h : Fields) (ec : h .channels ≡ p .channels) (ed : h .depth ≡ p .«bits_per_sample»)
     (some : 1 ≤ h .channels) (low : 1 ≤ h .depth) (high : h .depth ≤ 32) (g : ℕ) (s : List ℤ) (l : length s ≡ h .channels * active (h .frames) g) (hold : AllHold (h .depth) s) where
@@ -105,14 +108,6 @@ module _ (p : PcmSpec) (mode : StereoMode) (h : Fields) (ec : h .channels ≡ p 
       blocks-group h g 1 (midSide chans) some low high (both-level (h .depth) n 512 high two chans level) (omega arith) (λ e. two) s
       (ap (woven k) (both-back (h .depth) n 512 high two chans level even) ∙ woven-padded n k some few s l)
 
-  -- the padded frames have the parity of the last
-  split-even : n ≡ 2 → parity (unwoven n s) ≡ true → parity chans ≡ true
-  unfolding parity
-  split-even two e =
-      let len = channel-length n k some s l in
-      let q = even-padded (channel n s 0) (channel n s 1) (len 0 ∙ sym (len 1)) (subst₂ Even (unwoven-is n k some s l 0 (omega arith)) (unwoven-is n k some s l 1 (omega arith)) e) in
-      subst₂ Even (sym (padded-channels-is n k some s l few 0 (omega arith))) (sym (padded-channels-is n k some s l few 1 (omega arith))) q
-
   -- in every mode it reads as s; what MidSide asks was checked
   pub group-codes : (mode ≡ MidSide → (p .channels ≡ 2) × (parity (unwoven (p .channels) s) ≡ true)) → Group h g s (encodedGroup p mode s)
   unfolding encodedGroup
@@ -124,5 +119,5 @@ module _ (p : PcmSpec) (mode : StereoMode) (h : Fields) (ec : h .channels ≡ p 
       by : (t : Bool) → takesMid mode n (h .depth) s ≡ t → Group h g s (cond t (blocks (h .depth) 1 (midSide chans)) (blocks (h .depth) 0 chans))
       by true e =
           let q = mid-when mode n (h .depth) s e (λ m. let x = ms m in (ec ∙ x .0, subst (λ (k : ℕ). parity (unwoven k s) ≡ true) (sym ec) (x .1))) in
-          both (q .0) (split-even (q .0) (q .1))
+          both (q .0) (padded-even n s (q .0) (q .1))
       by false e = direct

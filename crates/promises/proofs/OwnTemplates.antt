@@ -224,6 +224,7 @@ host-own-template b p mode lent file n room after r rate writer e short enough q
     let t = take n file in
     let whole = pass _ SampleBytes (ap not (eq-eqb (length b % 4) 0 (encode-whole b p mode lent n file e short))) in
     let inner : checkHostReencode b p t (length room) ≡ checkReencodeInto p s t (length room) = whole and-then refl in
-    let own = own-template p (modeOf mode) s lent file n room _ _ rate writer i enough (refl, refl) in
-    (q .0 ∙ ap (λ (c : Checked). result (answered c (Wrote (length t)) .outcome)) inner ∙ ap (λ (a : Answer). result (a .outcome)) (own .0),
-    q .1 ∙ ap (λ (c : Checked). filled c (reencodedFile s t) room) inner ∙ own .1)
+    let own = own-template p (modeOf mode) s lent file n room _ _ rate writer i enough (refl, refl) in (
+      q .0 ∙ ap (λ (c : Checked). result (answered c (Wrote (length t)) .outcome)) inner ∙ ap (λ (a : Answer). result (a .outcome)) (own .0),
+      q .1 ∙ ap (λ (c : Checked). filled c (reencodedFile s t) room) inner ∙ own .1,
+    )

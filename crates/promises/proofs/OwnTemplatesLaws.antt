@@ -29,11 +29,12 @@ use Rattle.laws.proofs.Widths.{width-low, width-some, width-most}
 use Rattle.laws.proofs.Misfits.{fit-fine}
 use Rattle.laws.proofs.Halves.{take-pairwise}
 use Rattle.laws.proofs.Channels.{Level, channel-length, unwoven-is, padded-channels-is, padded-channels-level, active-low}
-use Rattle.laws.proofs.Stereo.{both-level, frames-stay, parity-padded}
+use Rattle.laws.proofs.Stereo.{both-level, frames-stay}
 use Rattle.laws.proofs.Templates.{Template, fit-decides, actives-long}
 use Rattle.promises.proofs.MidSums.{Stays}
 use Rattle.promises.proofs.BlockLaws.{Reads, bits-read, block-reads}
 use Rattle.promises.proofs.GroupLaws.{front, rest-is, first-flags, group-long}
+use Rattle.promises.proofs.GroupCoding.{padded-even}
 use Rattle.promises.proofs.NewBlocks.{value-fits}
 use Rattle.promises.proofs.Kept.{values-kept}
 
@@ -161,10 +162,7 @@ module _ {h : Fields} {g : ℕ} {s : List ℤ} {bs : List ℕ} (w : Written h g 
       let two = w .can e .0 in
       let halves : (c : ℕ) → c < n → samplesOf (h .depth) (r c) ≡ getD (midSide chans) c [] = λ c q. samples-are c q ∙ ap (λ (t : Bool). getD (codedBy t n s) c []) e in
       rw (halves 0 (omega arith), halves 1 (omega arith))
-      (frames-stay (h .depth) n 512 (w .high) two chans plain (even two (w .can e .1)) i (omega (arith, active-low (h .frames) g)))
-    where
-      even : n ≡ 2 → parity (unwoven n s) ≡ true → parity (paddedChannels n s) ≡ true
-      even two e = subst (λ (x : ℕ). parity (unwoven x s) ≡ true → parity (paddedChannels x s) ≡ true) (sym two) (λ f. parity-padded s ∙ f) e
+      (frames-stay (h .depth) n 512 (w .high) two chans plain (padded-even n s two (w .can e .1)) i (omega (arith, active-low (h .frames) g)))
 
   -- ---- as a template's group, with s
 

@@ -63,6 +63,10 @@ module _ (b : ℕ) where
     pub is-unknown : w ≡ Unknown → false ≡ isIn b (8 ∷ 16 ∷ 24 ∷ 32 ∷ [])
     is-unknown e = ap isKnown (sym e ∙ says) ∙ all-listed
 
+-- ---- 32: the depth that a match has told
+pub told-within : (d told : Depth) (s : List ℤ) (r : Bool) → d ≡ told → r ≡ every (within told) s → r ≡ every (within d) s
+told-within d told s r same e = e ∙ ap (λ (x : Depth). every (within x) s) (sym same)
+
 -- ---- frames
 module _ (n m channels : ℕ) (counts : n ≡ m) where
   pub framed-is : (r : Framed) → r ≡ framesIn (record { 0 = n }) channels → r ≡ framesIn (record { 0 = m }) channels

@@ -86,12 +86,23 @@ fn framed(which: Container, words: &[i32], bytes: &[u8], channels: u16) -> Frame
     samples.frames(channels)
 }
 
+// Every sample lies in the range of 32 bits: with that depth as a constant, the compiler leaves no loop.
+fn all_within(which: Container, words: &[i32], bytes: &[u8], depth: Depth) -> bool
+    ensures { λ r. ⌜ (let lent = lentOf which (now (words .entry)) (now (bytes .entry)) in
+        r ≡ every (within depth) lent) ⌝ }
+{
+    match depth {
+        Depth::ThirtyTwo => lent_samples::all_within(which, words, bytes, Depth::ThirtyTwo),
+        _ => lent_samples::all_within(which, words, bytes, depth),
+    }
+}
+
 // 32: a value is outside the depth.
 fn check_values(which: Container, words: &[i32], bytes: &[u8], bits: u16) -> Checked
     ensures { λ r. ⌜ (let lent = lentOf which (now (words .entry)) (now (bytes .entry)) in
         r ≡ refuse (not (every (within (depthOf bits)) lent)) ValueOutside) ⌝ }
 {
-    if lent_samples::all_within(which, words, bytes, Depth::of(bits)) {} else {
+    if all_within(which, words, bytes, Depth::of(bits)) {} else {
         return Checked::No(Refusal::ValueOutside, NOWHERE);
     }
     Checked::Fine
