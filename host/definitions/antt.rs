@@ -6,7 +6,7 @@ use ncw::{PcmSpec, StereoMode};
 use std::fs;
 use std::path::Path;
 
-/// A case's number, what was asked, and what the Rust answered.
+/// A case's number, what was asked, and what is expected.
 pub type Numbered<'a> = (usize, &'a Question, &'a Answer);
 
 const TESTS: &str = include_str!("Tests.antt.in");
@@ -184,7 +184,7 @@ fn inputs(question: &Question) -> String {
     }
 }
 
-/// What the Rust answered, where it did not refuse.
+/// What is expected, where it is no refusal.
 fn expected(question: &Question, answer: &Answer) -> String {
     match (question, answer) {
         (_, Answer::Refused(..)) => String::new(),

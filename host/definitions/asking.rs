@@ -15,7 +15,7 @@ pub enum Question {
 }
 
 pub enum Answer {
-    /// Document 01's number, and the bits word where that is 4. With 36 `placed` has the place there.
+    /// Document 01's number, and the bits word where that is 4. With 36 `expected` has the place there.
     Refused(u32, i16),
     /// The seven header numbers, the group count, and 1 for float or 0.
     Opened([u64; 9]),

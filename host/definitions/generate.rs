@@ -1,6 +1,9 @@
 //! Makes cases from a seed, asks the Rust original, and writes for each what the definitions must say.
 mod antt;
+mod any_settings;
 mod asking;
+mod encoded;
+mod expected;
 mod faults;
 #[allow(dead_code)]
 mod few_frames;
@@ -11,14 +14,14 @@ mod located;
 #[allow(dead_code)]
 mod misfit;
 mod orders;
-mod placed;
 mod random;
 mod ranges;
 mod samples;
+mod widened;
 
 use antt::Numbered;
 use asking::{Answer, Question};
-use placed::ask;
+use expected::ask;
 use std::collections::{BTreeMap, BTreeSet};
 use std::fs;
 use std::path::Path;
@@ -27,6 +30,9 @@ type Case = (Question, Answer);
 
 /// Cases to a module.
 const TOGETHER: usize = 25;
+
+/// One case of so many is an encoding with any settings.
+const ONE_OF_ANY_SETTINGS: usize = 8;
 
 /// Cases that are shown whole.
 const SHOWN: usize = 5;
@@ -52,13 +58,16 @@ fn usage() -> ! {
 }
 
 fn cases(count: usize, seed: u64) -> Vec<Case> {
-    let mut maker = inputs::Maker::new(seed);
-    let mut case = || {
-        let question = maker.question();
+    let (mut maker, mut any_settings) = (inputs::Maker::new(seed), any_settings::Maker::new(seed));
+    let case = |k: usize| {
+        let question = match k % ONE_OF_ANY_SETTINGS {
+            0 => any_settings.question(),
+            _ => maker.question(),
+        };
         let answer = ask(&question);
         (question, answer)
     };
-    (0..count).map(|_| case()).collect()
+    (0..count).map(case).collect()
 }
 
 fn numbered(cases: &[Case]) -> Vec<Numbered<'_>> {
@@ -107,11 +116,18 @@ fn count(cases: &[Case]) {
         let refused = of_kind().filter(|(_, answer)| matches!(answer, Answer::Refused(..)));
         println!("{kind}: {} cases, {} of them refused", of_kind().count(), refused.count());
     }
+    let widened: Vec<&Case> = cases.iter().filter(|(question, _)| is_widened(question)).collect();
+    let written = widened.iter().filter(|(_, answer)| matches!(answer, Answer::Bytes(_))).count();
+    println!("encode, where the original refuses by 30: {} cases, {written} of them written", widened.len());
     println!("refused, number x times: {}", times(cases.iter().filter_map(refused)));
     let ranges: Vec<_> = numbered(cases).into_iter().flat_map(|(k, question, _)| ranges::ranges(k, question)).collect();
     let refused = ranges.iter().filter_map(|(_, _, said)| said.as_ref().err()).map(|refused| refused.number);
     println!("a few frames: {} ranges; refused, number x times: {}", ranges.len(), times(refused));
     println!("bits words read: {} of the 65 from -32 to 32", bits_words(cases).len());
+}
+
+fn is_widened(question: &Question) -> bool {
+    matches!(question, Question::Encode(..)) && matches!(asking::ask(question), Answer::Refused(30, _))
 }
 
 fn refused((_, answer): &Case) -> Option<u32> {
@@ -144,12 +160,12 @@ fn kind_of(question: &Question) -> &'static str {
     }
 }
 
-/// The smallest inputs, bytes in hexadecimal, and what the Rust answered.
+/// The smallest inputs, bytes in hexadecimal, and what was expected.
 fn show(mut chosen: Vec<Numbered>) {
     chosen.sort_by_key(|(_, question, _)| size(question));
     for (k, question, answer) in chosen.iter().take(SHOWN) {
         println!("case {k}: {}", asked(question));
-        println!("  the Rust: {}", answered(answer));
+        println!("  expected: {}", answered(answer));
     }
 }
 

@@ -1,10 +1,12 @@
-//! What the list says of a question: the original's answer, with what document 01 adds (38, 39, 50, done), and the places, frames and peaks of document 02.
+//! What the list says of a question: the original's answer, with what document 01 adds (38, 39, 50, done), and the places, frames, peaks and settings of
+//! document 02.
 use crate::asking::{ask, Answer, Question as Asking};
 use crate::faults::put;
 use crate::few_frames::read_frames;
 use crate::located::{self, Refused};
 use crate::peaks::{self, Decoded, Pair};
 use crate::reread::{Given, Question};
+use crate::widened::encoding;
 use ncw::{PcmSpec, StereoMode};
 
 #[derive(Clone, PartialEq)]
@@ -303,40 +305,33 @@ const MODES: [StereoMode; 3] = [StereoMode::Auto, StereoMode::Direct, StereoMode
 
 /// What is told, and the file.
 pub fn writing(spec: PcmSpec, mode: u32, samples: &[u8], room: usize) -> (Told, Vec<u8>) {
-    let PcmSpec { channels, bits_per_sample: depth, sample_rate: rate } = spec;
     match MODES.get(mode as usize) {
         None => (nowhere(38), Vec::new()),
-        Some(known) => written(samples, room, |samples| {
-            let found = located::encoding(&samples, channels, depth, rate, mode);
-            (Asking::Encode(spec, *known, samples), found)
-        }),
+        Some(known) => written(samples, room, |samples| encoding(spec, *known, samples).map_err(Told::Refused)),
     }
 }
 
 pub fn rewriting(spec: PcmSpec, samples: &[u8], template: &[u8], room: usize) -> (Told, Vec<u8>) {
     let PcmSpec { channels, bits_per_sample: depth, sample_rate: rate } = spec;
     written(samples, room, |samples| {
-        let found = located::reencoding(&samples, channels, depth, rate, template);
-        (Asking::Reencode(spec, samples, template.to_vec()), found)
+        let answer = ask(&Asking::Reencode(spec, samples.to_vec(), template.to_vec()));
+        let found = refused(&answer, located::reencoding(samples, channels, depth, rate, template));
+        match answer {
+            Answer::Bytes(file) => Ok(file),
+            _ => Err(found.expect("a refusal")),
+        }
     })
 }
 
-/// `question` is what the original is asked, and what the reference finds.
-fn written(
-    samples: &[u8],
-    room: usize,
-    question: impl FnOnce(Vec<i32>) -> (Asking, Option<Refused>),
-) -> (Told, Vec<u8>) {
+/// `file` makes it of the samples, or tells why not.
+fn written(samples: &[u8], room: usize, file: impl FnOnce(&[i32]) -> Result<Vec<u8>, Told>) -> (Told, Vec<u8>) {
     if samples.len() % 4 != 0 {
         return (nowhere(39), Vec::new());
     }
-    let (question, found) = question(words(samples));
-    let answer = ask(&question);
-    let found = refused(&answer, found);
-    match answer {
-        Answer::Bytes(file) if room < file.len() => (nowhere(50), file),
-        Answer::Bytes(file) => (Told::Counted(file.len() as u32, sum(&words(&file))), file),
-        _ => (found.expect("a refusal"), Vec::new()),
+    match file(&words(samples)) {
+        Ok(file) if room < file.len() => (nowhere(50), file),
+        Ok(file) => (Told::Counted(file.len() as u32, sum(&words(&file))), file),
+        Err(told) => (told, Vec::new()),
     }
 }
 

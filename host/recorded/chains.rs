@@ -139,7 +139,7 @@ impl Chains {
         tape.encode(mode, length.min(SPACE));
     }
 
-    /// One thing wrong with a call, or two: settings, an incomplete frame, an incomplete sample, the mode.
+    /// One thing wrong with a call, or two: settings (some for re-encoding alone), an incomplete frame, an incomplete sample, the mode.
     fn spoil(&mut self, spec: PcmSpec, tape: &mut Tape) {
         let (length, r) = (tape.sample_bytes().len(), &mut self.random);
         let settings = r.pick(&[(0, 16, 1), (3, 24, 1), (2, 8, 1), (1, 32, 1), (2, 16, 0), (1, 17, 1)]);

@@ -1,8 +1,8 @@
 //! What the encoder is asked: document 01's own cases, every width, what each mode takes, every refusal that a run can reach, and some drawn from a seed.
-use crate::asking::{ask, Answer, Question};
 use crate::draw::{Draw, Samples};
 use crate::random::Random;
 use crate::tape::SPACE;
+use crate::widened::encoding;
 use ncw::{PcmSpec, StereoMode};
 
 pub struct Encoding {
@@ -37,25 +37,22 @@ pub fn spec(channels: u16, depth: u16) -> PcmSpec {
 }
 
 /// With room for twelve bytes more than the file takes.
-fn case(name: &str, spec: PcmSpec, mode: StereoMode, samples: impl Into<Samples>) -> Encoding {
+pub fn case(name: &str, spec: PcmSpec, mode: StereoMode, samples: impl Into<Samples>) -> Encoding {
     let samples = samples.into();
     let length = length(spec, mode, &samples.values()).unwrap_or(0);
     case_in(SPACE.min(length + 12), name, spec, mode, samples)
 }
 
-fn case_in(room: usize, name: &str, spec: PcmSpec, mode: StereoMode, samples: impl Into<Samples>) -> Encoding {
+pub fn case_in(room: usize, name: &str, spec: PcmSpec, mode: StereoMode, samples: impl Into<Samples>) -> Encoding {
     let name = format!("{name}, {mode:?}, room {room}");
     Encoding { name, spec, mode, samples: samples.into(), room }
 }
 
 fn length(spec: PcmSpec, mode: StereoMode, samples: &[i32]) -> Option<usize> {
-    match ask(&Question::Encode(spec, mode, samples.to_vec())) {
-        Answer::Bytes(file) => Some(file.len()),
-        _ => None,
-    }
+    encoding(spec, mode, samples).ok().map(|file| file.len())
 }
 
-fn in_all_modes(name: &str, spec: PcmSpec, samples: &[i32]) -> Vec<Encoding> {
+pub fn in_all_modes(name: &str, spec: PcmSpec, samples: &[i32]) -> Vec<Encoding> {
     MODES.map(|mode| case(name, spec, mode, samples)).into()
 }
 
@@ -146,8 +143,8 @@ fn drawn(random: &mut Random) -> Vec<Encoding> {
 // ---- what is refused
 
 fn of_settings(_: &mut Random) -> Vec<Encoding> {
-    let channels = [0, 3, 8, 65_535].map(|channels| (channels, 16, 44_100));
-    let depths = [0, 8, 15, 17, 23, 25, 32, 65_535].map(|depth| (1, depth, 44_100));
+    let channels = [0, 9, 65_535].map(|channels| (channels, 16, 44_100));
+    let depths = [0, 7, 9, 15, 17, 23, 25, 31, 33, 65_535].map(|depth| (1, depth, 44_100));
     let others = [(1, 16, 0), (0, 0, 0), (2, 24, 1), (1, 16, u32::MAX)];
     let settings = channels.into_iter().chain(depths).chain(others);
     let spec = |(channels, depth, rate)| PcmSpec { channels, bits_per_sample: depth, sample_rate: rate };

@@ -1,5 +1,6 @@
 //! The list of answers: every case as items, and what the program must print of them.
 use crate::answers::writing;
+use crate::beyond;
 use crate::cases::{self, Case};
 use crate::chains;
 use crate::encodings::{self, Encoding};
@@ -29,6 +30,8 @@ pub fn whole() -> Tape {
     places::all(&mut tape);
     ranges::all(&mut tape);
     summaries::all(&mut tape);
+    beyond::all().iter().for_each(|case| write(&mut tape, case));
+    beyond::of_settings(&mut tape);
     tape
 }
 

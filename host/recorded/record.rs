@@ -3,11 +3,14 @@ mod answers;
 #[allow(dead_code)]
 #[path = "../definitions/asking.rs"]
 mod asking;
+mod beyond;
 #[allow(dead_code)]
 mod blocks;
 mod cases;
 mod chains;
 mod draw;
+#[path = "../definitions/encoded.rs"]
+mod encoded;
 mod encodings;
 #[allow(dead_code)]
 #[path = "../definitions/faults.rs"]
@@ -53,6 +56,8 @@ mod tape;
 mod templates;
 mod traps;
 mod walks;
+#[path = "../definitions/widened.rs"]
+mod widened;
 
 use reread::reread;
 use std::fs;

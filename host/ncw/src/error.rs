@@ -40,7 +40,7 @@ const REFUSALS: [(u32, &str); 43] = [
     (20, "float bit differs from the file's first block"),
     (21, "mid/side without two channels"),
     (22, "bytes left in a group"),
-    (30, "writer: channels not 1 or 2, depth not 16 or 24, or zero rate"),
+    (30, "writer: channels or depth that it does not take, or zero rate"),
     (31, "incomplete frame"),
     (32, "value outside depth"),
     (33, "over 4,294,967,295 frames"),

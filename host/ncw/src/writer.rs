@@ -5,10 +5,10 @@ use crate::opened::SAMPLES_PER_BLOCK;
 use crate::refused::reencode_refusal;
 use crate::slices::answered;
 
-/// How the two channels of a stereo file are written.
+/// How the channels are written: as they are, or where there are two as mid/side.
 #[derive(Clone, Copy, Debug, PartialEq, Eq)]
 pub enum StereoMode {
-    /// Each group as mid/side where that can be undone exactly and takes fewer bytes, otherwise as it is.
+    /// Each group of two channels as mid/side where that can be undone exactly and takes fewer bytes, and any other as it is.
     Auto,
     /// Every group as it is.
     Direct,
@@ -27,7 +27,8 @@ impl StereoMode {
     }
 }
 
-/// What is to be encoded or re-encoded: 1 or 2 channels, 16 or 24 bits.
+/// What is to be encoded or re-encoded. Encoding takes 1 to 8 channels and 8, 16, 24 or 32 bits, re-encoding 1 or 2 channels and 16
+/// or 24 bits. Other settings are refusal 30, and so is a rate of 0.
 #[derive(Clone, Copy, Debug)]
 pub struct PcmSpec {
     /// How many samples a frame has.
@@ -125,7 +126,7 @@ pub fn encode_with_template_into(
 /// The most bytes that a file of so many samples has: every block raw. Settings that are refused need no room, and data of more
 /// than 32 bits are refused.
 fn longest(samples: usize, spec: PcmSpec) -> usize {
-    if !matches!((spec.channels, spec.bits_per_sample), (1 | 2, 16 | 24)) {
+    if !matches!((spec.channels, spec.bits_per_sample), (1..=8, 8 | 16 | 24 | 32)) {
         return 0;
     }
     let groups = samples.div_ceil(SAMPLES_PER_BLOCK * usize::from(spec.channels));
@@ -145,16 +146,20 @@ mod tests {
     fn room_for_the_longest_file() {
         assert_eq!([0, 1, 512, 513].map(|n| room(n, 1, 16)), [124, 1168, 1168, 2212]);
         assert_eq!([0, 1, 2, 1024, 1025].map(|n| room(n, 2, 24)), [124, 3232, 3232, 3232, 6340]);
+        assert_eq!([0, 8, 4096, 4104].map(|n| room(n, 8, 32)), [124, 16_640, 16_640, 33_156]);
+        assert_eq!([8, 16, 24, 32].map(|depth| room(3, 3, depth)), [1712, 3248, 4784, 6320]);
     }
 
+    /// The most samples that memory can have, of any settings: no sum is too large, and only what is refused gets no room.
     #[test]
     fn room_of_absurd_calls() {
         let most = isize::MAX as usize / 4;
         for (channels, depth) in
-            [0, 1, 2, 3, u16::MAX].into_iter().flat_map(|c| [0, 8, 16, 24, u16::MAX].map(|d| (c, d)))
+            (0..=10).chain([u16::MAX]).flat_map(|c| (0..=40).chain([u16::MAX]).map(move |d| (c, d)))
         {
-            let accepted = matches!((channels, depth), (1 | 2, 16 | 24));
-            assert_eq!(room(most, channels, depth) > 1 << 32, accepted, "{channels} channels, depth {depth}");
+            let accepted = (1..=8).contains(&channels) && [8, 16, 24, 32].contains(&depth);
+            let room = room(most, channels, depth);
+            assert_eq!((room > 1 << 32, room > 0), (accepted, accepted), "{channels} channels, depth {depth}");
         }
     }
 }

@@ -1,7 +1,7 @@
 //! Document 01's cases of encoding.
 use crate::blocks::{differences, file, flagged, raw};
 use crate::files::{bits_words, Block};
-use crate::{mono, spec, stereo};
+use crate::{mono, number, spec, stereo, MODES};
 use ncw::{encode_pcm, StereoMode};
 
 /// A raw block with its base, which is the first value.
@@ -16,18 +16,13 @@ fn padded(values: &[i32]) -> Vec<i32> {
     all
 }
 
-/// The file's number of four bytes at a place.
-fn number(file: &[u8], at: usize) -> u32 {
-    u32::from_le_bytes(file[at..at + 4].try_into().unwrap())
-}
-
 #[test]
 fn a_file_without_frames() {
     let mut bytes =
         vec![0x01, 0xA8, 0x9E, 0xD6, 0x31, 0x01, 0x00, 0x00, 0x02, 0x00, 0x10, 0x00, 0x44, 0xAC, 0x00, 0x00];
     bytes.extend([0x00, 0x00, 0x00, 0x00, 0x78, 0x00, 0x00, 0x00, 0x7C, 0x00, 0x00, 0x00, 0x00, 0x00, 0x00, 0x00]);
     bytes.resize(124, 0);
-    for mode in [StereoMode::Auto, StereoMode::Direct, StereoMode::MidSide] {
+    for mode in MODES {
         assert_eq!(stereo(&[], mode).unwrap(), bytes);
     }
 }

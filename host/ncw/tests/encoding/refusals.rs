@@ -11,7 +11,7 @@ fn number(samples: &[i32], spec: PcmSpec, mode: StereoMode) -> Option<u32> {
 
 #[test]
 fn settings() {
-    for (channels, depth) in [(0, 16), (3, 16), (65_535, 24), (258, 16), (1, 0), (2, 8), (2, 32), (1, 17), (1, 65_535)]
+    for (channels, depth) in [(0, 16), (9, 16), (65_535, 24), (258, 16), (1, 0), (2, 7), (2, 33), (1, 17), (1, 65_535)]
     {
         for samples in [&[][..], &[5, 5], &[i32::MAX; 7]] {
             assert_eq!(number(samples, spec(channels, depth), StereoMode::MidSide), Some(30), "{channels} {depth}");
@@ -25,21 +25,25 @@ fn settings() {
 fn incomplete_frames() {
     assert_eq!(number(&[1, 2, 3], spec(2, 16), StereoMode::Direct), Some(31));
     assert_eq!(number(&[i32::MAX], spec(2, 16), StereoMode::MidSide), Some(31));
+    assert_eq!(number(&[1, 2, 3, 4], spec(3, 8), StereoMode::Auto), Some(31));
+    assert_eq!(number(&[0; 4_103], spec(8, 32), StereoMode::Auto), Some(31));
 }
 
 #[test]
 fn values_outside_the_depth() {
-    for (depth, limit) in [(16, 1 << 15), (24, 1 << 23)] {
+    for (depth, limit) in [(8, 1 << 7), (16, 1 << 15), (24, 1 << 23)] {
         for outside in [limit, -limit - 1, i32::MAX, i32::MIN] {
             for place in [0, 300, 599] {
                 let mut samples = vec![0; 600];
                 samples[place] = outside;
                 assert_eq!(number(&samples, spec(1, depth), StereoMode::Auto), Some(32), "{outside}");
                 assert_eq!(number(&samples, spec(2, depth), StereoMode::MidSide), Some(32), "{outside}");
+                assert_eq!(number(&samples, spec(8, depth), StereoMode::Direct), Some(32), "{outside}");
             }
         }
         assert!(encode_pcm(&[limit - 1, -limit], spec(1, depth), StereoMode::Auto).is_ok());
     }
+    assert!(encode_pcm(&[i32::MAX, i32::MIN], spec(1, 32), StereoMode::Auto).is_ok());
 }
 
 #[test]
@@ -47,6 +51,15 @@ fn mid_side_without_stereo() {
     assert_eq!(number(&[], spec(1, 16), StereoMode::MidSide), Some(34));
     assert_eq!(number(&[1, 2], spec(1, 24), StereoMode::MidSide), Some(34));
     assert_eq!(number(&[1 << 15], spec(1, 16), StereoMode::MidSide), Some(32));
+    for channels in [1, 3, 4, 5, 6, 7, 8] {
+        let both = |samples: &[i32]| number(samples, spec(channels, 8), StereoMode::MidSide);
+        let mut frame = vec![2; channels.into()];
+        assert_eq!([both(&[]), both(&frame)], [Some(34); 2], "{channels} channels");
+        frame[0] = 128;
+        assert_eq!(both(&frame), Some(32), "{channels} channels");
+        frame.push(2);
+        assert_eq!(both(&frame), Some(if channels == 1 { 32 } else { 31 }), "{channels} channels");
+    }
 }
 
 #[test]
@@ -58,6 +71,7 @@ fn parity() {
         assert_eq!(number(&samples, spec(2, 16), StereoMode::MidSide), Some(35), "frame {place} of {frames}");
         assert!(stereo(&samples, StereoMode::Auto).is_ok());
     }
+    assert_eq!(number(&[i32::MAX, i32::MIN], spec(2, 32), StereoMode::MidSide), Some(35));
 }
 
 #[test]

@@ -20,6 +20,20 @@ fn enough_and_too_little() {
     }
 }
 
+/// Eight channels of 32 bits, all blocks raw.
+#[test]
+fn the_longest_file_of_a_frame() {
+    let samples: Vec<i32> = (0..16).map(|k| if k < 8 { 0 } else { i32::MIN + k }).collect();
+    let mut room = vec![0xA5; 128 + 8 * 2_064 + 1];
+    let [exact, more] = [room.len() - 1, room.len()];
+    for (length, answer) in [(exact - 1, Err(Some(50))), (exact, Ok(exact)), (more, Ok(exact))] {
+        let written = encode_into(&samples, spec(8, 32), StereoMode::Auto, &mut room[..length]);
+        assert_eq!(written.map_err(|refused| refused.number()), answer);
+    }
+    let file = encode_pcm(&samples, spec(8, 32), StereoMode::Auto).unwrap();
+    assert_eq!((&room[..exact], room[exact]), (&file[..], 0xA5));
+}
+
 #[test]
 fn a_refusal_changes_nothing() {
     let mut samples = rising();

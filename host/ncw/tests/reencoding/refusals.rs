@@ -4,7 +4,7 @@ use crate::faults::{put, set_end};
 use crate::files::{Block, File};
 use crate::{one_sample, reencoded, refused, spec_of};
 use ncw::boundary::{reencode, REFUSED};
-use ncw::{encode_pcm_with_template, encode_with_template_into, NcwError, PcmSpec};
+use ncw::{encode_pcm, encode_pcm_with_template, encode_with_template_into, NcwError, PcmSpec, StereoMode};
 use std::io::ErrorKind;
 
 /// All that re-encoding is asked with.
@@ -103,6 +103,19 @@ fn settings() {
     }
     assert_eq!([(1, 24, 44_100), (1, 16, 44_101)].map(|(c, d, r)| number(c, d, r)), [Some(40); 2]);
     assert_eq!(number(2, 16, 44_100), Some(31));
+}
+
+/// Of every other count of channels and depth that encoding takes, a file is no template, not of its own samples either.
+#[test]
+fn settings_that_encoding_alone_takes() {
+    for (channels, depth) in (1..=8).flat_map(|channels| [8, 16, 24, 32].map(|depth| (channels, depth))) {
+        let spec = PcmSpec { channels, bits_per_sample: depth, sample_rate: 44_100 };
+        let samples = vec![5; 2 * usize::from(channels)];
+        let file = encode_pcm(&samples, spec, StereoMode::Auto).unwrap();
+        let taken = channels <= 2 && [16, 24].contains(&depth);
+        let number = encode_pcm_with_template(&samples, spec, &file).err().map(|refused| refused.number().unwrap());
+        assert_eq!(number, if taken { None } else { Some(30) }, "{channels} channels, depth {depth}");
+    }
 }
 
 #[test]

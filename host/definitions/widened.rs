@@ -1,0 +1,31 @@
+//! What encoding answers. Document 02 takes settings that the Rust original refuses by 30: there the reference stands in for it. What is then written
+//! the original reads.
+use crate::asking::{ask, Answer, Question};
+use crate::encoded;
+use crate::located::Refused;
+use ncw::{PcmSpec, StereoMode};
+
+/// What the reference says. It has to be what the original says, unless that is 30: the original has then to read a file as these samples.
+pub fn encoding(spec: PcmSpec, mode: StereoMode, samples: &[i32]) -> Result<Vec<u8>, Refused> {
+    let PcmSpec { channels, bits_per_sample: depth, sample_rate: rate } = spec;
+    let said = encoded::encoding(samples, channels, depth, rate, mode as u32);
+    let of_reference = said.clone().map_err(|refused| refused.number);
+    match (of_original(spec, mode, samples), &of_reference) {
+        (Err(30), Ok(file)) => assert!(is_read_as(file, samples), "a file that the original reads otherwise"),
+        (Err(30), Err(_)) => {}
+        (of_original, _) => assert!(of_original == of_reference, "what the original answers, and the reference"),
+    }
+    said
+}
+
+fn of_original(spec: PcmSpec, mode: StereoMode, samples: &[i32]) -> Result<Vec<u8>, u32> {
+    match ask(&Question::Encode(spec, mode, samples.to_vec())) {
+        Answer::Bytes(file) => Ok(file),
+        Answer::Refused(number, _) => Err(number),
+        _ => panic!("an answer to another question"),
+    }
+}
+
+fn is_read_as(file: &[u8], samples: &[i32]) -> bool {
+    matches!(ask(&Question::Decode(file.to_vec())), Answer::Samples(read) if read == samples)
+}
