@@ -61,7 +61,8 @@ const REENCODING: Work = Work {
     times: |input, turns| reencoding::SIDES.times(input, turns),
 };
 
-const WIDE: [Work; 2] = [Work { rows: rows::wide, ..ENCODING }, Work { rows: rows::wide, ..DECODING }];
+const WIDE: [(&str, Work); 2] =
+    [("Encoding", Work { rows: rows::wide, ..ENCODING }), ("Decoding", Work { rows: rows::wide, ..DECODING })];
 
 const SHORT: [usize; 1] = [10];
 const ALL: [usize; 2] = [10, 600];
@@ -75,7 +76,7 @@ fn main() {
         ["encode", "--short"] | ["--short", "encode"] => ENCODING.run(&SHORT),
         ["reencode"] => REENCODING.run(&ALL),
         ["reencode", "--short"] | ["--short", "reencode"] => REENCODING.run(&SHORT),
-        ["wide"] | ["wide", "--short"] | ["--short", "wide"] => WIDE.iter().for_each(|work| work.run(&SHORT)),
+        ["wide"] | ["wide", "--short"] | ["--short", "wide"] => run_wide(),
         ["frames"] => few_frames::run(&ALL[1..]),
         ["frames", "--short"] | ["--short", "frames"] => few_frames::run(&SHORT),
         ["floats"] => floats::WORK.run(&ALL),
@@ -84,6 +85,14 @@ fn main() {
         ["peaks", "--short"] | ["--short", "peaks"] => peaks::run(&SHORT),
         _ => stop("usage: bench [encode|reencode|wide|frames|floats|peaks] [--short]"),
     };
+}
+
+fn run_wide() {
+    for (title, work) in &WIDE {
+        println!("{title}, of settings that the original's encoder refuses.");
+        work.run(&SHORT);
+        println!();
+    }
 }
 
 impl Work {

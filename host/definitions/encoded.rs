@@ -71,11 +71,11 @@ fn padded(samples: &[i64], channels: usize, channel: usize) -> Vec<i64> {
 
 // ---- a block
 
-fn blocks(channels: &[Vec<i64>], depth: u16, flags: u64) -> Vec<u8> {
+fn blocks(channels: &[Vec<i64>], depth: u16, flags: i64) -> Vec<u8> {
     channels.iter().flat_map(|channel| block(channel, depth, flags)).collect()
 }
 
-fn block(samples: &[i64], depth: u16, flags: u64) -> Vec<u8> {
+fn block(samples: &[i64], depth: u16, flags: i64) -> Vec<u8> {
     let mut differences: Vec<i64> = samples.windows(2).map(|two| wrapped(two[1] - two[0])).collect();
     differences.push(0);
     let width = (2..=32)
@@ -85,7 +85,7 @@ fn block(samples: &[i64], depth: u16, flags: u64) -> Vec<u8> {
         true => (&differences[..], i64::from(width), width),
         false => (samples, -i64::from(depth), depth),
     };
-    let header = [(samples[0], 4), (bits, 2), (flags as i64, 2), (0, 4)];
+    let header = [(samples[0], 4), (bits, 2), (flags, 2), (0, 4)];
     let mut block = vec![0x16, 0x0C, 0x9A, 0x3E];
     block.extend(header.iter().flat_map(|(number, count)| bytes(*number as u64, *count)));
     block.extend(packed(values, width));

@@ -5,17 +5,23 @@ use crate::encoded;
 use crate::located::Refused;
 use ncw::{PcmSpec, StereoMode};
 
-/// What the reference says. It has to be what the original says, unless that is 30: the original has then to read a file as these samples.
+/// What the reference says. It has to be what the original says, unless that refuses by 30 what document 02 takes: then the reference does not, and the
+/// original has to read a file as these samples.
 pub fn encoding(spec: PcmSpec, mode: StereoMode, samples: &[i32]) -> Result<Vec<u8>, Refused> {
     let PcmSpec { channels, bits_per_sample: depth, sample_rate: rate } = spec;
     let said = encoded::encoding(samples, channels, depth, rate, mode as u32);
     let of_reference = said.clone().map_err(|refused| refused.number);
     match (of_original(spec, mode, samples), &of_reference) {
-        (Err(30), Ok(file)) => assert!(is_read_as(file, samples), "a file that the original reads otherwise"),
-        (Err(30), Err(_)) => {}
+        (Err(30), Ok(file)) if is_taken(spec) => assert!(is_read_as(file, samples), "the original reads it otherwise"),
+        (Err(30), Err(number)) if is_taken(spec) => assert!(*number != 30, "30 of what document 02 takes"),
         (of_original, _) => assert!(of_original == of_reference, "what the original answers, and the reference"),
     }
     said
+}
+
+/// Document 02's limits.
+fn is_taken(spec: PcmSpec) -> bool {
+    (1..=8).contains(&spec.channels) && [8, 16, 24, 32].contains(&spec.bits_per_sample) && spec.sample_rate != 0
 }
 
 fn of_original(spec: PcmSpec, mode: StereoMode, samples: &[i32]) -> Result<Vec<u8>, u32> {

@@ -1,5 +1,5 @@
-//! What document 02 takes and the original refuses by 30: 3 to 8 channels, 8 and 32 bits. Encoding's answers are the reference's here, what is written
-//! the original reads, and re-encoding refuses it.
+//! What document 02 takes and the original refuses by 30: 3 to 8 channels, 8 and 32 bits. Encoding's answers are the reference's there, what is written
+//! the original reads, and re-encoding refuses it. The grid of all settings has the original's own among them.
 use crate::answers::writing;
 use crate::draw::{Draw, Samples};
 use crate::encodings::{case, case_in, in_all_modes, spec, Encoding};

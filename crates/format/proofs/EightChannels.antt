@@ -2,7 +2,7 @@
 use Prim.Native.Nat.{ℕ, _+_, _*_, _^_}
 use mathlib.Core.Path.{_≡_, refl}
 use mathlib.Core.Bool.{true, false}
-use mathlib.Core.List.{List, [], _∷_}
+use mathlib.Core.List.{List, [], _∷_, _++_}
 use lib.ListN.{length, replicate, drop}
 use lib.IntN.{ℤ, pos, negsuc}
 use Rattle.format.specs.Lists.{joined}
@@ -37,9 +37,9 @@ two depth a b = encodedGroup (pcm 1 depth) Auto (a ∷ b ∷ [])
 abbrev together : List ℤ
 together = pos 100 ∷ pos 100 ∷ pos 0 ∷ negsuc 99 ∷ negsuc 99 ∷ pos 0 ∷ []
 
--- a frame of eight channels: both ends of 32 bits in each
+-- two frames of eight channels: each goes from one end of 32 bits to the other
 abbrev ends : List ℤ
-ends = joined (λ k. bottom ∷ top ∷ []) 4
+ends = joined (λ k. bottom ∷ top ∷ []) 4 ++ joined (λ k. top ∷ bottom ∷ []) 4
 
 abbrev silent : PcmSpec
 silent = record { channels = 8; «bits_per_sample» = 32; «sample_rate» = 0 }
@@ -95,7 +95,7 @@ pub record EightChannels : Type 0 where
   pub three-same : encodedGroup (pcm 3 16) Auto together ≡ encodedGroup (pcm 3 16) Direct together
   pub two-taken : takesMid Auto 2 16 (pos 100 ∷ pos 100 ∷ negsuc 99 ∷ negsuc 99 ∷ []) ≡ true
   pub three-back : decodesTo (encodedFile (pcm 3 16) Auto together) together
-  -- a frame of eight channels of 32 bits: eight blocks, there and back; and by the boundary
+  -- eight channels of 32 bits whose differences wrap: eight blocks, there and back; and by the boundary
   pub eight-length : length (encodedFile (pcm 8 32) Auto ends) ≡ 128 + 8 * 144
   pub eight-back : decodesTo (encodedFile (pcm 8 32) Auto ends) ends
   pub eight-hosted : hostEncode (joined (λ k. le 4 2147483648) 8) (pcm 8 32) 0 2000 ≡ 128 + 8 * 144

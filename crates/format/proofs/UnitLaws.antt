@@ -36,6 +36,15 @@ pub depth-unnamed : (b : ℕ) (w : DepthWord) → w ≡ depthWord b → w ≡ Un
 unfolding depthOf
 depth-unnamed b w e t = ap orWidest (sym t ∙ e)
 
+-- whether it names one
+pub depth-said : (b : ℕ) (w : DepthWord) (d : Depth) → w ≡ depthWord b → w ≡ Known d → true ≡ isDepth b
+unfolding isDepth
+depth-said b w d e t = ap isKnown (sym t ∙ e)
+
+pub depth-unsaid : (b : ℕ) (w : DepthWord) → w ≡ depthWord b → w ≡ Unknown → false ≡ isDepth b
+unfolding isDepth
+depth-unsaid b w e t = ap isKnown (sym t ∙ e)
+
 -- a number is that of the depth which it names
 pub depth-bits : (b : ℕ) → isDepth b ≡ true → bitsIn (depthOf b) ≡ b
 unfolding isDepth depthOf depthWord

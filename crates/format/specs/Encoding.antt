@@ -51,7 +51,7 @@ paddedChannels channels samples = tab channels (λ c. padded (channel channels s
 
 -- ---- a block of the 512 samples xs of a channel
 
--- their differences, with 0 as the last
+-- their differences, wrapped at 32 bits (document 02, L4), with 0 as the last
 unfoldable pub differences : List ℤ → List ℤ
 differences [] = []
 differences (x ∷ []) = pos 0 ∷ []
@@ -99,11 +99,11 @@ blocks depth flags chans = joined (λ c. encodedBlock depth flags (getD chans c 
 
 -- ---- mid and side
 
--- mid = (l + r)/2
+-- mid = (l + r)/2, of the exact sum (document 02, L4)
 unfoldable pub mid : ℤ → ℤ → ℤ
 mid left right = quotZ (left +ℤ right) (pos 2)
 
--- side = (l − r)/2
+-- side = (l − r)/2, of the exact difference
 unfoldable pub side : ℤ → ℤ → ℤ
 side left right = quotZ (left -ℤ right) (pos 2)
 
@@ -123,7 +123,8 @@ parity chans = every (λ (equal : Bool). equal) (pairwise equalParity (getD chan
 
 -- ---- a group, of the samples of its frames
 
--- Direct; MidSide in every group, whatever its size; Auto per group where representable and strictly smaller
+-- Direct; MidSide in every group, whatever its size; Auto per group where representable and strictly smaller, of two
+-- channels alone (document 02, L4)
 unfoldable pub takesMid : StereoMode → ℕ → ℕ → List ℤ → Bool
 takesMid Direct channels depth samples = false
 takesMid MidSide channels depth samples = true

@@ -6,13 +6,13 @@ pub enum SampleFormat {
     Float,
 }
 
-// Which form the two channels of newly encoded groups take.
+// Which form the channels of newly encoded groups take.
 pub enum StereoMode {
-    // In each group mid/side where that is exact and smaller than direct, and else direct.
+    // In each group of two channels mid/side where that is exact and smaller than direct, and else direct.
     Auto,
-    // Left and right as they are.
+    // The channels as they are.
     Direct,
-    // Mid/side in every group; where a frame's samples differ in parity this refuses, and does not round.
+    // Mid/side in every group; where there are not two channels, or a frame's samples differ in parity, this refuses.
     MidSide,
 }
 

@@ -2,7 +2,7 @@
 ghost use mathlib.Core.Path.{_≡_};
 ghost use Prim.Native.Nat.{_≤_};
 ghost use Rattle.format.specs.Header.{groupsOf};
-ghost use Rattle.format.specs.Units.{depthWord, depthOf, bitsIn, bytesIn, lowest, highest};
+ghost use Rattle.format.specs.Units.{depthWord, depthOf, isDepth, bitsIn, bytesIn, lowest, highest};
 ghost use Rattle.format.specs.Units.{samplesIn, Framing, active};
 
 // A sample depth: its range, its bytes, and the sizes that no depth changes.
@@ -50,6 +50,16 @@ impl Depth {
         match Depth::from_bits(bits) {
             DepthWord::Known(d) => d,
             DepthWord::Unknown => Depth::ThirtyTwo,
+        }
+    }
+
+    // Whether a word names a depth.
+    pub fn is_depth(bits: u16) -> bool
+        ensures { λ r. ⌜ r ≡ isDepth bits ⌝ }
+    {
+        match Depth::from_bits(bits) {
+            DepthWord::Known(_) => true,
+            DepthWord::Unknown => false,
         }
     }
 

@@ -1,3 +1,2 @@
--- What the proofs share: the signature as a number, and the depth word.
+-- What the proofs share: the signature as a number.
 pub mod Signatures
-pub mod Depths

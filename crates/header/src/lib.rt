@@ -2,7 +2,6 @@
 // reader.rs.
 use format::Checked;
 use format::Depth;
-use format::DepthWord;
 use format::FILE_SIGNATURE;
 use format::FILE_SIGNATURE_30;
 use format::FILE_SIGNATURE_31;
@@ -17,7 +16,6 @@ ghost use mathlib.Core.Path.{_≡_};
 ghost use Prim.Native.Nat.{_+_, _*_, _<_, _≤_};
 ghost use lib.ListN.{length};
 ghost use Rattle.format.specs.Header.{isSignature, fieldsOf, groupsOf, entry};
-ghost use Rattle.format.specs.Units.{isDepth};
 ghost use Rattle.format.specs.Refusals.{refuse, inOrder};
 ghost use Rattle.format.specs.Places.{inGroup};
 ghost use Rattle.format.specs.Opening.{checkFields, checkOffsets, badEntry, checkTable};
@@ -57,16 +55,6 @@ pub fn read_fields(s: &[u8]) -> Fields
     }
 }
 
-// Whether the depth word is 8, 16, 24 or 32.
-fn is_depth(bits: u16) -> bool
-    ensures { λ r. ⌜ r ≡ isDepth bits ⌝ }
-{
-    match Depth::from_bits(bits) {
-        DepthWord::Known(_) => true,
-        DepthWord::Unknown => false,
-    }
-}
-
 // The refusals of the fields alone. 10: zero channels. 11: depth not 8, 16, 24, 32. 12: zero rate.
 pub fn check_fields(h: Fields) -> Checked
     ensures { λ r. ⌜ r ≡ checkFields h ⌝ }
@@ -74,7 +62,7 @@ pub fn check_fields(h: Fields) -> Checked
     if h.channels == 0 {
         return Checked::No(Refusal::ZeroChannels, NOWHERE);
     }
-    if is_depth(h.depth) {} else {
+    if Depth::is_depth(h.depth) {} else {
         return Checked::No(Refusal::DepthUnknown, NOWHERE);
     }
     if h.rate == 0 {

@@ -2,7 +2,7 @@
 -- depth holds, and no more frames than 32 bits count.
 use Prim.Native.Nat.{ℕ, _*_, _/_, _%_, _≤_, _<_}
 use mathlib.Core.Path.{_≡_, refl, sym, ap, _∙_, fun-ext}
-use mathlib.Core.Bool.{Bool, true, false}
+use mathlib.Core.Bool.{Bool, true, false, not}
 use mathlib.Core.List.{List, [], _∷_}
 use mathlib.Core.Logic.{⊎-elim}
 use native.Mathlib.Omega.{arith}
@@ -10,7 +10,7 @@ use native.Mathlib.Nat.{div-add-mod}
 use lib.ListN.{length}
 use lib.IntN.{ℤ}
 use lib.Dec.{eqb}
-use borrow.Author.Tests.{ltb-false, eqb-true, eqb-false, not-false}
+use borrow.Author.Tests.{ltb-false, le-ltb, eqb-true, eqb-false, ne-eqb, not-false}
 use Rattle.format.specs.Lists.{every, isIn}
 use Rattle.format.specs.Units.{bitsIn, within, isDepth, depthOf, depthWord}
 use Rattle.format.specs.Encoding.{checkSpec, checkEncoder, checkSamples}
@@ -23,10 +23,42 @@ use Rattle.format.specs.declared.refusals.Refusal.{Refusal}
 use Rattle.format.specs.declared.settings.PcmSpec.{PcmSpec}
 use Rattle.format.proofs.UnitLaws.{depth-bits, within-holds}
 use Rattle.laws.proofs.Tests.{and-left, and-right, either}
-use Rattle.laws.proofs.Checks.{first-fine, others-fine, passed, Unsaid, unsaid, _nor_}
+use Rattle.laws.proofs.Checks.{pass, passed, _and-then_, first-fine, others-fine, Unsaid, unsaid, _nor_}
 use Rattle.laws.proofs.Signs.{AllHold, every-holds}
 
--- ---- 30: what a writer that takes up to `most` channels is given
+-- ---- 30: settings of 1 to `most` channels, of one of these depths, and with a rate: what such a writer takes
+pub record Taken (most : ℕ) (depths : List ℕ) (p : PcmSpec) : Type 0 where
+  pub some : 1 ≤ p .channels
+  pub few : p .channels ≤ most
+  pub depth : isIn (p .«bits_per_sample») depths ≡ true
+  pub rate : 1 ≤ p .«sample_rate»
+
+module _ (most : ℕ) (depths : List ℕ) (p : PcmSpec) where
+  pub taken-fine : Taken most depths p → checkSpec most depths p ≡ Fine
+  unfolding checkSpec
+  taken-fine t =
+      let some = t .some in
+      let rate = t .rate in
+      pass _ _ (ne-eqb (p .channels) 0 (λ e. omega arith))
+      and-then pass _ _ (le-ltb most (p .channels) (t .few))
+      and-then pass _ _ (ap not (t .depth))
+      and-then pass _ _ (ne-eqb (p .«sample_rate») 0 (λ e. omega arith))
+
+  pub fine-taken : checkSpec most depths p ≡ Fine → Taken most depths p
+  unfolding checkSpec
+  fine-taken ok =
+      let ok2 = others-fine _ _ ok in
+      let ok3 = others-fine _ _ ok2 in
+      let c = eqb-false (p .channels) 0 (passed _ _ (first-fine _ _ ok)) in
+      let q = eqb-false (p .«sample_rate») 0 (passed _ _ (others-fine _ _ ok3)) in
+      record {
+        some = omega arith;
+        few = ltb-false most (p .channels) (passed _ _ (first-fine _ _ ok2));
+        depth = not-false _ (passed _ _ (first-fine _ _ ok3));
+        rate = omega arith;
+      }
+
+-- what follows of them, where the depths are depths
 pub record Valid (most : ℕ) (p : PcmSpec) : Type 0 where
   pub some : 1 ≤ p .channels
   pub few : p .channels ≤ most
@@ -51,28 +83,23 @@ bits-range Sixteen = omega arith
 bits-range TwentyFour = omega arith
 bits-range ThirtyTwo = omega arith
 
--- of a writer whose depths are depths
 pub valid : (most : ℕ) (depths : List ℕ) (p : PcmSpec) → checkSpec most depths p ≡ Fine → every isDepth depths ≡ true → Valid most p
-unfolding checkSpec
 valid most depths p ok all =
-    let ok2 = others-fine _ _ ok in
-    let ok3 = others-fine _ _ ok2 in
+    let t = fine-taken most depths p ok in
     let b = p .«bits_per_sample» in
-    let d : isDepth b ≡ true = listed b depths all (not-false _ (passed _ _ (first-fine _ _ ok3))) in
+    let d : isDepth b ≡ true = listed b depths all (t .depth) in
     let e = depth-bits b d in
     let r = bits-range (depthOf b) in
-    let c = eqb-false (p .channels) 0 (passed _ _ (first-fine _ _ ok)) in
-    let q = eqb-false (p .«sample_rate») 0 (passed _ _ (others-fine _ _ ok3)) in
     record {
-      some = omega arith;
-      few = ltb-false most (p .channels) (passed _ _ (first-fine _ _ ok2));
+      some = t .some;
+      few = t .few;
       low = omega arith;
       high = omega arith;
       depth = d;
-      rate = omega arith;
+      rate = t .rate;
     }
 
--- the two writers; how many channels each takes stands here, and nowhere else
+-- the two writers
 pub encoder-ok : (p : PcmSpec) → checkEncoder p ≡ Fine → Valid 8 p
 unfolding checkEncoder every isDepth depthWord
 encoder-ok p ok = valid _ _ p ok refl

@@ -37,41 +37,41 @@ module _ (s : List ℕ) (byte : Below 256 s) where
 
 -- ---- what encoding writes
 
-below-zero : 0 < 256
-below-zero = zero-lt-suc 255
+zero-below : 0 < 256
+zero-below = zero-lt-suc 255
 
-record Bytes (xs : List ℕ) : Type 0 where
+record AllBytes (xs : List ℕ) : Type 0 where
   pub below : Below 256 xs
 
-given : (xs : List ℕ) → every (λ x. ltb x 256) xs ≡ true → Bytes xs
-given xs e = record { below = digits-by 256 below-zero xs e }
+by-test : (xs : List ℕ) → every (λ x. ltb x 256) xs ≡ true → AllBytes xs
+by-test xs e = record { below = digits-by 256 zero-below xs e }
 
 infixr 20 _and-bytes_
-_and-bytes_ : {xs ys : List ℕ} → Bytes xs → Bytes ys → Bytes (xs ++ ys)
-_and-bytes_ {xs} {ys} p q = record { below = each-append (λ x. x < 256) 0 below-zero xs ys (p .below) (q .below) }
+_and-bytes_ : {xs ys : List ℕ} → AllBytes xs → AllBytes ys → AllBytes (xs ++ ys)
+_and-bytes_ {xs} {ys} p q = record { below = each-append (λ x. x < 256) 0 zero-below xs ys (p .below) (q .below) }
 
-joined-bytes : (part : ℕ → List ℕ) (n : ℕ) → ((k : ℕ) → Bytes (part k)) → Bytes (joined part n)
-joined-bytes part n p = record { below = each-joined (λ x. x < 256) 0 below-zero part n (λ k l. p k .below) }
+joined-bytes : (part : ℕ → List ℕ) (n : ℕ) → ((k : ℕ) → AllBytes (part k)) → AllBytes (joined part n)
+joined-bytes part n p = record { below = each-joined (λ x. x < 256) 0 zero-below part n (λ k l. p k .below) }
 
-le-bytes : (n N : ℕ) → Bytes (le n N)
+le-bytes : (n N : ℕ) → AllBytes (le n N)
 unfolding le
-le-bytes n N = record { below = digits-below 256 below-zero n N }
+le-bytes n N = record { below = digits-below 256 zero-below n N }
 
-packing-bytes : (width : ℕ) (xs : List ℤ) → Bytes (packing width xs)
+packing-bytes : (width : ℕ) (xs : List ℤ) → AllBytes (packing width xs)
 unfolding packing runOf
-packing-bytes width xs = record { below = digits-below 256 below-zero (64 * width) (num (2 ^ width) (map (codeOf width) xs)) }
+packing-bytes width xs = record { below = digits-below 256 zero-below (64 * width) (num (2 ^ width) (map (codeOf width) xs)) }
 
-block-bytes : (base bits : ℤ) (flags : ℕ) (run : List ℕ) → Bytes run → Bytes (blockBytes base bits flags run)
+block-bytes : (base bits : ℤ) (flags : ℕ) (run : List ℕ) → AllBytes run → AllBytes (blockBytes base bits flags run)
 unfolding blockBytes blockMark every
 block-bytes base bits flags run p =
-    given blockMark refl
+    by-test blockMark refl
     and-bytes le-bytes 4 (codeOf 32 base)
     and-bytes le-bytes 2 (codeOf 16 bits)
     and-bytes le-bytes 2 flags
     and-bytes le-bytes 4 0
     and-bytes p
 
-encoded-bytes : (depth flags : ℕ) (xs : List ℤ) → Bytes (encodedBlock depth flags xs)
+encoded-bytes : (depth flags : ℕ) (xs : List ℤ) → AllBytes (encodedBlock depth flags xs)
 unfolding encodedBlock
 encoded-bytes depth flags xs = by (ltb width depth)
   where
@@ -79,15 +79,15 @@ encoded-bytes depth flags xs = by (ltb width depth)
     width = leastWidth (differences xs)
 
     by : (t : Bool)
-        → Bytes (cond t (blockBytes (firstValue xs) (pos width) flags (packing width (differences xs))) (blockBytes (firstValue xs) (negℤ (pos depth)) flags (packing depth xs)))
+        → AllBytes (cond t (blockBytes (firstValue xs) (pos width) flags (packing width (differences xs))) (blockBytes (firstValue xs) (negℤ (pos depth)) flags (packing depth xs)))
     by true = block-bytes (firstValue xs) (pos width) flags (packing width (differences xs)) (packing-bytes width (differences xs))
     by false = block-bytes (firstValue xs) (negℤ (pos depth)) flags (packing depth xs) (packing-bytes depth xs)
 
-blocks-bytes : (depth flags : ℕ) (chans : List (List ℤ)) → Bytes (blocks depth flags chans)
+blocks-bytes : (depth flags : ℕ) (chans : List (List ℤ)) → AllBytes (blocks depth flags chans)
 unfolding blocks
 blocks-bytes depth flags chans = joined-bytes (λ c. encodedBlock depth flags (getD chans c [])) (length chans) (λ c. encoded-bytes depth flags (getD chans c []))
 
-group-bytes : (p : PcmSpec) (mode : StereoMode) (s : List ℤ) → Bytes (encodedGroup p mode s)
+group-bytes : (p : PcmSpec) (mode : StereoMode) (s : List ℤ) → AllBytes (encodedGroup p mode s)
 unfolding encodedGroup
 group-bytes p mode s = by (takesMid mode (p .channels) depth s)
   where
@@ -97,14 +97,14 @@ group-bytes p mode s = by (takesMid mode (p .channels) depth s)
     chans : List (List ℤ)
     chans = paddedChannels (p .channels) s
 
-    by : (t : Bool) → Bytes (cond t (blocks depth 1 (midSide chans)) (blocks depth 0 chans))
+    by : (t : Bool) → AllBytes (cond t (blocks depth 1 (midSide chans)) (blocks depth 0 chans))
     by true = blocks-bytes depth 1 (midSide chans)
     by false = blocks-bytes depth 0 chans
 
-header-bytes : (p : PcmSpec) (frames : Frames) (start size : ℕ) → Bytes (headerBytes p frames start size)
+header-bytes : (p : PcmSpec) (frames : Frames) (start size : ℕ) → AllBytes (headerBytes p frames start size)
 unfolding headerBytes signature every
 header-bytes p frames start size =
-    given (signature 0x31) refl
+    by-test (signature 0x31) refl
     and-bytes le-bytes 2 (p .channels)
     and-bytes le-bytes 2 (p .«bits_per_sample»)
     and-bytes le-bytes 4 (p .«sample_rate»)
@@ -112,9 +112,9 @@ header-bytes p frames start size =
     and-bytes le-bytes 4 120
     and-bytes le-bytes 4 start
     and-bytes le-bytes 4 size
-    and-bytes given (replicate 88 0) refl
+    and-bytes by-test (replicate 88 0) refl
 
-assembled-bytes : (p : PcmSpec) (frames : Frames) (part : ℕ → List ℕ) → ((g : ℕ) → Bytes (part g)) → Bytes (assembled p frames part)
+assembled-bytes : (p : PcmSpec) (frames : Frames) (part : ℕ → List ℕ) → ((g : ℕ) → AllBytes (part g)) → AllBytes (assembled p frames part)
 unfolding assembled tableOf
 assembled-bytes p frames part b =
     let n = groupsOf frames in

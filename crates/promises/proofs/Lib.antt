@@ -41,7 +41,8 @@ pub mod Misfits
 pub mod WalkLaws
 pub mod ViewLaws
 pub mod FewFramesLaws
--- lost frames
+-- eight channels; lost frames
+pub mod EightChannelsLaws
 pub mod LostFramesLaws
 -- summaries of peaks
 pub mod PeaksLaws

@@ -3,7 +3,7 @@
 use Prim.Native.Nat.{ℕ, zero, suc, _+_, _%_, _^_, _≤_, _<_}
 use mathlib.Core.Path.{_≡_, refl, sym, ap, ap₂, _∙_, subst}
 use mathlib.Core.Bool.{Bool, true, false, cond, not, _||_}
-use mathlib.Core.List.{List}
+use mathlib.Core.List.{List, [], _∷_}
 use native.Mathlib.Omega.{arith}
 use lib.ListN.{length, take}
 use lib.IntN.{ℤ}
@@ -34,7 +34,7 @@ use Rattle.laws.proofs.Parts.{one-more}
 use Rattle.laws.proofs.Checks.{pass, passed, _and-then_, first-fine, others-fine}
 use Rattle.laws.proofs.Places.{located-all}
 use Rattle.laws.proofs.Channels.{some-active, group-length, group-holds}
-use Rattle.laws.proofs.SampleChecks.{encoder-ok, frames-ok, values-ok}
+use Rattle.laws.proofs.SampleChecks.{Taken, taken-fine, encoder-ok, frames-ok, values-ok}
 use Rattle.promises.proofs.Demands.{Rate32}
 use Rattle.promises.proofs.Laid.{Layout}
 use Rattle.promises.proofs.RoundTrip as RoundTrip
@@ -159,19 +159,19 @@ module _ (p : PcmSpec) (mode : StereoMode) (s : List ℤ) (rate : Rate32 p) (ok 
   group-fine g l = ap (λ (bs : List ℕ). checkReencodeGroup (h .depth) (h .channels) bs (groupIn (h .channels) s g)) (lay .groups g l) ∙ written-accepts (written g l)
 
   -- where re-encoding takes the settings, nothing is refused
-  accepts : checkReencoder p ≡ Fine → checkReencode p s template ≡ Fine
-  unfolding checkReencode
-  accepts writer =
-      writer
+  accepts : Taken 2 (16 ∷ 24 ∷ []) p → checkReencode p s template ≡ Fine
+  unfolding checkReencode checkReencoder
+  accepts taken =
+      taken-fine 2 (16 ∷ 24 ∷ []) p taken
       and-then RoundTrip.samples-ok p mode s ok
       and-then template-fine
       and-then (
       ap (λ (x : Fields). inOrder (λ g. inGroup g (checkAt x g)) (groupsOf (x .frames))) (lay .fields)
       ∙ located-all (checkAt h) atGroup (groupsOf (framesOf p s)) group-fine)
 
-  answers : checkReencoder p ≡ Fine → (room : ℕ) → length template ≤ room → reencodeOf p s template room ≡ wrote (length template)
+  answers : Taken 2 (16 ∷ 24 ∷ []) p → (room : ℕ) → length template ≤ room → reencodeOf p s template room ≡ wrote (length template)
   unfolding reencodeOf checkReencodeInto
-  answers writer room l = ap (λ (c : Checked). answered c (Wrote (length template))) (accepts writer and-then pass _ _ (le-ltb room (length template) l))
+  answers taken room l = ap (λ (c : Checked). answered c (Wrote (length template))) (accepts taken and-then pass _ _ (le-ltb room (length template) l))
 
 -- law three's premise holds for every file that encoding writes
 pub none-leaves : (p : PcmSpec) (mode : StereoMode) (s : List ℤ) (lent file : List ℕ) (n : ℕ)
@@ -184,18 +184,18 @@ none-leaves p mode s lent file n rate e = subst NoneLeaves (sym (file-written p 
 -- comes back whole
 pub own-template : (p : PcmSpec) (mode : StereoMode) (s : List ℤ) (lent file : List ℕ) (n : ℕ) (room after : List ℕ) (r : Answer)
     → Rate32 p
-    → checkReencoder p ≡ Fine
+    → Taken 2 (16 ∷ 24 ∷ []) p
     → Encodes p mode s lent (wrote n) file
     → n ≤ length room
     → Reencodes p s (take n file) room r after
     → (r ≡ wrote n) × (after ≡ over (take n file) room)
-own-template p mode s lent file n room after r rate writer e enough q =
+own-template p mode s lent file n room after r rate taken e enough q =
     let ok = encode-ok p mode s lent file n e in
     let t = encodedFile p mode s in
     let is : take n file ≡ t = file-written p mode s lent file n e in
     let long : n ≡ length t = file-long p mode s lent file n e in
     let moved : Reencodes p s t room r after = subst (λ (f : List ℕ). Reencodes p s f room r after) is q in
-    let says : r ≡ wrote n = moved .0 ∙ answers p mode s rate ok writer (length room) (omega arith) ∙ ap wrote (sym long) in
+    let says : r ≡ wrote n = moved .0 ∙ answers p mode s rate ok taken (length room) (omega arith) ∙ ap wrote (sym long) in
     let wrote-all : Reencodes p s t room (wrote n) after = subst (λ (a : Answer). Reencodes p s t room a after) says moved in
     let own : s ≡ decodedOf t = sym (RoundTrip.gives-back p mode s ok rate) in
     let kept = template-written p s t room after n wrote-all (below-file p mode s) own (stays p mode s rate ok) in
@@ -211,20 +211,20 @@ host-none-leaves b p mode lent file n rate e short = none-leaves p (modeOf mode)
 
 pub host-own-template : (b : List ℕ) (p : PcmSpec) (mode : ℕ) (lent file : List ℕ) (n : ℕ) (room after : List ℕ) (r : ℕ)
     → Rate32 p
-    → checkReencoder p ≡ Fine
+    → Taken 2 (16 ∷ 24 ∷ []) p
     → HostEncodes b p mode lent n file
     → n < 2 ^ 63
     → n ≤ length room
     → HostReencodes b p (take n file) room r after
     → (r ≡ n) × (after ≡ over (take n file) room)
 unfolding hostReencode hostReencodeInto checkHostReencode checkBytes reencodeOf reencodeInto
-host-own-template b p mode lent file n room after r rate writer e short enough q =
+host-own-template b p mode lent file n room after r rate taken e short enough q =
     let s = samplesFrom b in
     let i = host-encoded b p mode lent n file e short in
     let t = take n file in
     let whole = pass _ SampleBytes (ap not (eq-eqb (length b % 4) 0 (encode-whole b p mode lent n file e short))) in
     let inner : checkHostReencode b p t (length room) ≡ checkReencodeInto p s t (length room) = whole and-then refl in
-    let own = own-template p (modeOf mode) s lent file n room _ _ rate writer i enough (refl, refl) in (
+    let own = own-template p (modeOf mode) s lent file n room _ _ rate taken i enough (refl, refl) in (
       q .0 ∙ ap (λ (c : Checked). result (answered c (Wrote (length t)) .outcome)) inner ∙ ap (λ (a : Answer). result (a .outcome)) (own .0),
       q .1 ∙ ap (λ (c : Checked). filled c (reencodedFile s t) room) inner ∙ own .1,
     )

@@ -10,7 +10,7 @@ use lib.IntN.{ℤ}
 use lib.Dec.{eqb, ltb}
 use borrow.Author.Tests.{le-ltb, eq-eqb, ne-eqb}
 use Rattle.format.specs.Lists.{every, isIn}
-use Rattle.format.specs.Units.{within, depthWord, isKnown, depthOf, framesIn}
+use Rattle.format.specs.Units.{within, depthWord, isKnown, isDepth, depthOf, framesIn}
 use Rattle.format.specs.Refusals.{nowhere, refuse, _then_}
 use Rattle.format.specs.Encoding.{checkSamples}
 use Rattle.format.specs.declared.refusals.Refusal.{Refusal}
@@ -21,7 +21,6 @@ use Rattle.format.specs.declared.refusals.Checked.the-variants.{Fine, No}
 use Rattle.format.specs.declared.settings.PcmSpec.{PcmSpec}
 use Rattle.format.specs.declared.units.Depth.{Depth}
 use Rattle.format.specs.declared.units.Depth.the-variants.{Eight, Sixteen, TwentyFour, ThirtyTwo}
-use Rattle.format.specs.declared.units.DepthWord.{DepthWord}
 use Rattle.format.specs.declared.units.DepthWord.the-variants.{Known, Unknown}
 use Rattle.format.specs.declared.units.Frames.{Frames}
 use Rattle.format.specs.declared.units.Framed.{Framed}
@@ -42,9 +41,9 @@ module _ (b : ℕ) where
   unfolding isIn
   is-other p q = rw (ne-eqb b 16 p, ne-eqb b 24 q)
 
-  -- all depths that are known are listed
-  all-listed : isKnown (depthWord b) ≡ isIn b (8 ∷ 16 ∷ 24 ∷ 32 ∷ [])
-  unfolding depthWord isIn
+  -- the four depths that there are
+  pub all-listed : isDepth b ≡ isIn b (8 ∷ 16 ∷ 24 ∷ 32 ∷ [])
+  unfolding isDepth depthWord isIn
   all-listed = by (eqb b 8) (eqb b 16) (eqb b 24) (eqb b 32)
     where
       by : (p q r s : Bool)
@@ -55,13 +54,6 @@ module _ (b : ℕ) where
       by false false true s = refl
       by false false false true = refl
       by false false false false = refl
-
-  module _ (w : DepthWord) (says : w ≡ depthWord b) where
-    pub is-known : (d : Depth) → w ≡ Known d → true ≡ isIn b (8 ∷ 16 ∷ 24 ∷ 32 ∷ [])
-    is-known d e = ap isKnown (sym e ∙ says) ∙ all-listed
-
-    pub is-unknown : w ≡ Unknown → false ≡ isIn b (8 ∷ 16 ∷ 24 ∷ 32 ∷ [])
-    is-unknown e = ap isKnown (sym e ∙ says) ∙ all-listed
 
 -- ---- 32: the depth that a match has told
 pub told-within : (d told : Depth) (s : List ℤ) (r : Bool) → d ≡ told → r ≡ every (within told) s → r ≡ every (within d) s

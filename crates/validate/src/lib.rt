@@ -2,7 +2,6 @@
 // settings are not a writer's; 31: the last frame is incomplete; 32: a value is outside the depth; 33: too many frames.
 use format::Checked;
 use format::Depth;
-use format::DepthWord;
 use format::Framed;
 use format::Frames;
 use format::NOWHERE;
@@ -43,16 +42,6 @@ fn check_spec(p: PcmSpec, most: u16, listed: bool) -> Checked
     Checked::Fine
 }
 
-// The depths that the encoder takes: all there are.
-fn encoder_depth(bits: u16) -> bool
-    ensures { λ r. ⌜ r ≡ isIn bits (8 ∷ 16 ∷ 24 ∷ 32 ∷ []) ⌝ }
-{
-    match Depth::from_bits(bits) {
-        DepthWord::Known(_) => true,
-        DepthWord::Unknown => false,
-    }
-}
-
 // The depths that the re-encoder takes.
 fn reencoder_depth(bits: u16) -> bool
     ensures { λ r. ⌜ r ≡ isIn bits (16 ∷ 24 ∷ []) ⌝ }
@@ -64,11 +53,11 @@ fn reencoder_depth(bits: u16) -> bool
     }
 }
 
-// The encoder's 30: its limits stand here.
+// The encoder's 30: its limits stand here. It takes every depth there is.
 pub fn check_encoder(p: PcmSpec) -> Checked
     ensures { λ r. ⌜ r ≡ checkEncoder p ⌝ }
 {
-    check_spec(p, 8, encoder_depth(p.bits_per_sample))
+    check_spec(p, 8, Depth::is_depth(p.bits_per_sample))
 }
 
 // The re-encoder's 30, with limits of its own.
@@ -86,8 +75,9 @@ fn framed(which: Container, words: &[i32], bytes: &[u8], channels: u16) -> Frame
     samples.frames(channels)
 }
 
-// Every sample lies in the range of 32 bits: with that depth as a constant, the compiler leaves no loop.
-fn all_within(which: Container, words: &[i32], bytes: &[u8], depth: Depth) -> bool
+// Whether every sample lies in the depth's own range. All lie in that of 32 bits: with that depth as a constant there is
+// nothing left to ask, and the compiler leaves no loop.
+fn none_outside(which: Container, words: &[i32], bytes: &[u8], depth: Depth) -> bool
     ensures { λ r. ⌜ (let lent = lentOf which (now (words .entry)) (now (bytes .entry)) in
         r ≡ every (within depth) lent) ⌝ }
 {
@@ -102,7 +92,7 @@ fn check_values(which: Container, words: &[i32], bytes: &[u8], bits: u16) -> Che
     ensures { λ r. ⌜ (let lent = lentOf which (now (words .entry)) (now (bytes .entry)) in
         r ≡ refuse (not (every (within (depthOf bits)) lent)) ValueOutside) ⌝ }
 {
-    if all_within(which, words, bytes, Depth::of(bits)) {} else {
+    if none_outside(which, words, bytes, Depth::of(bits)) {} else {
         return Checked::No(Refusal::ValueOutside, NOWHERE);
     }
     Checked::Fine

@@ -47,11 +47,12 @@ fn mid_and_side_of_exact_sums() {
 /// The flags of each block of one group.
 fn flags(file: &[u8]) -> Vec<u8> {
     let mut at = 128;
-    let mut next = |bits: &i16| {
+    let mut flags = |bits: &i16| {
+        let block = at;
         at += 16 + 64 * usize::from(bits.unsigned_abs());
-        at - 16 - 64 * usize::from(bits.unsigned_abs())
+        file[block + 10]
     };
-    bits_words(file).iter().map(|bits| file[next(bits) + 10]).collect()
+    bits_words(file).iter().map(|bits| flags(bits)).collect()
 }
 
 #[test]

@@ -1,14 +1,14 @@
 -- Both ways ask the same of the same depth.
 use borrow.Author.Needs.{needs}
 use Rattle.validate.proofs.Ways.{told-within}
-use Rattle.validate.proofs.all_within.Statement.{statement}
-use Rattle.validate.proofs.all_within.Tie as tie
+use Rattle.validate.proofs.none_outside.Statement.{statement}
+use Rattle.validate.proofs.none_outside.Tie as tie
 
 returns : tie.Need-returns
 returns c = search told-within
 
-pub all-within-spec : {M : Type 1} → statement M
-all-within-spec =
+pub none-outside-spec : {M : Type 1} → statement M
+none-outside-spec =
     tie.close
     (tie.spec
     (λ c. search needs)
