@@ -47,6 +47,28 @@ pub fn differ_in<T: PartialEq + UpperHex>(what: &str, rust: &[T], ours: &[T]) ->
     differ(&format!("{what} {at}"), &digits(rust), &digits(ours))
 }
 
+/// Samples that were read, or the refusal.
+pub type Read = Result<Vec<i32>, Refused>;
+
+pub fn same_samples(what: &str, rust: &Read, ours: &Read) -> Result<(), Difference> {
+    match (rust, ours) {
+        _ if rust == ours => Ok(()),
+        (Ok(rust), Ok(ours)) if rust.len() == ours.len() => differ_in(&format!("{what}, sample"), rust, ours),
+        _ => {
+            let [rust, ours] = [rust, ours].map(|said| in_short(said, |samples| format!("{} samples", samples.len())));
+            differ(what, &rust, &ours)
+        }
+    }
+}
+
+pub fn in_short<T>(said: &Result<T, Refused>, success: impl Fn(&T) -> String) -> String {
+    match said {
+        Ok(found) => success(found),
+        Err((4, bits)) => format!("refused 4 with {bits}"),
+        Err((number, _)) => word(*number),
+    }
+}
+
 /// A panic is a difference.
 pub fn calmly<T>(side: &str, call: impl FnOnce() -> T) -> Result<T, Difference> {
     catch_unwind(AssertUnwindSafe(call)).or_else(|_| differ(side, "an answer", "a panic"))

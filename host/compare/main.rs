@@ -17,6 +17,8 @@ mod boundary;
 mod boundary;
 mod changed;
 mod crash;
+#[path = "../definitions/encoded.rs"]
+mod encoded;
 mod encoding;
 mod errors;
 mod families;

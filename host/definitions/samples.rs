@@ -2,19 +2,18 @@
 use crate::random::Random;
 use ncw::PcmSpec;
 
-/// `frames` whole frames within the depth.
+/// `frames` whole frames within the depth. Each channel but the first is drawn beside the one before it.
 pub fn samples(spec: PcmSpec, frames: usize, random: &mut Random) -> Vec<i32> {
-    let first = channel(spec.bits_per_sample, frames, random);
-    if spec.channels != 2 {
-        return first;
+    let mut channels = vec![channel(spec.bits_per_sample, frames, random)];
+    for before in 0..usize::from(spec.channels).saturating_sub(1) {
+        channels.push(beside(&channels[before], spec.bits_per_sample, random));
     }
-    let second = beside(&first, spec.bits_per_sample, random);
-    first.iter().zip(&second).flat_map(|(l, r)| [*l, *r]).collect()
+    (0..frames).flat_map(|frame| channels.iter().map(move |channel| channel[frame])).collect()
 }
 
 /// The least and the greatest value of a depth.
 pub fn limits(depth: u16) -> (i32, i32) {
-    (-(1 << (depth - 1)), (1 << (depth - 1)) - 1)
+    (i32::MIN >> (32 - depth), i32::MAX >> (32 - depth))
 }
 
 fn clamp(value: i64, depth: u16) -> i32 {
@@ -52,7 +51,7 @@ fn steps(bits: u32, depth: u16, frames: usize, random: &mut Random) -> Vec<i32> 
     (0..frames).map(|k| clamp(if k < at { base } else { base + step }, depth)).collect()
 }
 
-/// A second channel: of its own, equal, or of equal parity in all frames or in all but one.
+/// A channel beside another: of its own, equal, or of equal parity in all frames or in all but one.
 fn beside(first: &[i32], depth: u16, random: &mut Random) -> Vec<i32> {
     match random.below(6) {
         0 => channel(depth, first.len(), random),

@@ -2,7 +2,7 @@
 use super::edge::Edge;
 use crate::boundary;
 use crate::input::Input;
-use crate::lent::REFUSED;
+use crate::lent::{as_bytes, REFUSED};
 use crate::{encoding, frames, peaks, reencoding};
 
 pub trait Fuzzed: Input {
@@ -113,6 +113,33 @@ impl Fuzzed for encoding::Call {
         if answer < REFUSED {
             ask(answer as usize);
         }
+    }
+}
+
+/// As those of encoding. But unless the rate is the highest it becomes a call that only the original refuses by 30, in a mode that there is, with whole frames
+/// of samples within the depth. What is so already stays.
+pub fn wide(bytes: &[u8]) -> Option<encoding::Call> {
+    let call = encoding::Call::from_bytes(bytes)?;
+    Some(if call.rate == u32::MAX { call } else { widened(call) })
+}
+
+fn widened(call: encoding::Call) -> encoding::Call {
+    let up_to = |most: u16, number: u16| number.wrapping_sub(1) % most + 1;
+    let channels = up_to(8, call.channels);
+    let depth = match 8 * up_to(4, call.depth / 8) {
+        16 if channels < 3 => 8,
+        24 if channels < 3 => 32,
+        depth => depth,
+    };
+    let within = |sample: i32| sample << (32 - depth) >> (32 - depth);
+    let samples = call.samples.chunks_exact(4).map(|sample| within(four(sample, 0) as i32));
+    let whole = call.samples.len() / 4 / usize::from(channels) * usize::from(channels);
+    encoding::Call {
+        samples: as_bytes(&samples.take(whole).collect::<Vec<_>>()),
+        channels,
+        depth,
+        rate: call.rate.max(1),
+        mode: call.mode % 3,
     }
 }
 

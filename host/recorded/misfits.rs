@@ -191,7 +191,7 @@ fn of_widths() -> Vec<Reencoding> {
 }
 
 fn limits(width: u32) -> [i32; 3] {
-    let [highest, lowest, above, below] = edges_of(width as u16);
+    let [highest, lowest, above, below] = edges_of(width as u16).map(|edge| edge as i32);
     [highest, lowest, if width % 2 == 0 { above } else { below }]
 }
 

@@ -10,9 +10,11 @@ pub type Tally = crate::input::Tally<OfCalls>;
 
 #[derive(Default)]
 pub struct OfCalls {
-    /// By number and by mode. The last column is for all other modes.
-    numbers: Table<u32, 4>,
+    /// By number and by mode: those of calls that the original decides, and those of the reference. The last column is for all other modes.
+    numbers: [Table<u32, 4>; 2],
     pub places: Places,
+    /// Files by channels and depth.
+    formats: Table<u16, 4>,
     /// By the flags.
     groups: Table<&'static str, 2>,
     /// By the bits word and the flags.
@@ -20,11 +22,13 @@ pub struct OfCalls {
 }
 
 impl Tally {
-    pub fn note(&mut self, call: &Call, said: &Written) {
+    pub fn note(&mut self, call: &Call, said: &Written, by_reference: bool) {
         self.inputs += 1;
-        self.answers.numbers.note(*said.as_ref().err().unwrap_or(&SUCCESS), call.mode as usize);
+        let numbers = &mut self.answers.numbers[usize::from(by_reference)];
+        numbers.note(*said.as_ref().err().unwrap_or(&SUCCESS), call.mode as usize);
         if let Ok(file) = said {
             self.samples += call.samples.len() as u64 / 4;
+            self.answers.formats.note(call.channels, usize::from(call.depth / 8).saturating_sub(1));
             self.answers.note_groups(file);
         }
     }
@@ -41,17 +45,22 @@ impl OfCalls {
 
 impl Answers for OfCalls {
     fn add(&mut self, other: &Self) {
-        self.numbers.add(&other.numbers);
+        self.numbers.iter_mut().zip(&other.numbers).for_each(|(numbers, more)| numbers.add(more));
         self.places.add(&other.places);
+        self.formats.add(&other.formats);
         self.groups.add(&other.groups);
         self.blocks.add(&other.blocks);
     }
 
-    /// The answers by mode, and where they are; then the groups, and the blocks by width.
+    /// The answers by mode, and where they are; then the files, the groups, and the blocks by width.
     fn print(&self) {
-        line("answer", ["auto", "direct", "mid/side", "no mode"]);
-        self.numbers.print(word);
+        for (name, numbers) in ["answer", "reference"].iter().zip(&self.numbers) {
+            line(name, ["auto", "direct", "mid/side", "no mode"]);
+            numbers.print(word);
+        }
         self.places.print();
+        line("channels", ["8 bits", "16 bits", "24 bits", "32 bits"]);
+        self.formats.print(|channels| channels.to_string());
         line("width", ["direct", "mid/side"]);
         self.groups.print(str::to_string);
         self.blocks.print(width_word);

@@ -30,9 +30,10 @@ impl Call {
         Call { samples: as_bytes(samples), channels, depth, rate: RATE, mode }
     }
 
-    /// The most bytes that a file of so many samples can have.
+    /// The most bytes that a file of so many samples can have, of 8 channels at most.
     pub fn longest(&self) -> usize {
-        124 + self.samples.len().div_ceil(2048) * (4 + 2 * (16 + 64 * 24))
+        let channels = usize::from(self.channels.clamp(1, 8));
+        124 + self.samples.len().div_ceil(2048 * channels) * (4 + channels * (16 + 64 * 32))
     }
 }
 

@@ -1,8 +1,10 @@
-//! What either side makes of a call: the Rust original, and ours by its drop-in crate.
+//! What each side makes of a call: the Rust original, the reference, and ours by its drop-in crate.
 use super::Call;
 use crate::asking::{ask, Answer, Question};
+use crate::encoded::encoding;
 use crate::errors::number_of;
 use crate::lent::Written;
+use crate::located::Refused;
 use crate::writing::Sampled;
 
 /// The modes by their numbers.
@@ -20,6 +22,13 @@ pub fn original(call: &Call) -> Written {
         Answer::Refused(number, _) => Err(number),
         _ => panic!("an answer to another question"),
     }
+}
+
+/// Nothing where 38 or 39 comes before.
+pub fn reference(call: &Call) -> Option<Result<Vec<u8>, Refused>> {
+    let samples = call.numbers()?;
+    let is_mode = MODES.len() > call.mode as usize;
+    is_mode.then(|| encoding(&samples, call.channels, call.depth, call.rate, call.mode))
 }
 
 /// Nothing where the crate can't be asked: it has no other modes, and no part of a sample.

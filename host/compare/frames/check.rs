@@ -1,10 +1,10 @@
 //! One range on all sides.
 use super::answers::Tally;
 use super::mended::{mended, touched};
-use super::sides::{cut, drop_in, pieces, whole, Read};
+use super::sides::{cut, drop_in, pieces, whole};
 use super::{rooms, Call};
 use crate::few_frames::read_frames;
-use crate::input::{calmly, differ, differ_in, Difference};
+use crate::input::{calmly, differ, same_samples, Difference, Read};
 use crate::located::Refused;
 use crate::reading::sides::{original, Opened, Said};
 use crate::reading::watched::stopped;
@@ -20,10 +20,10 @@ pub fn check(call: &Call, tally: &mut Tally) -> Result<(), Difference> {
     refer(call, &whole, &said)?;
     let ours = calmly(DROP_IN, || drop_in(call))?;
     tally.calls += 1 + u64::from(whole.opened.is_ok());
-    same("a few frames by the drop-in crate", &numbered(&said), &ours)?;
+    same_samples("a few frames by the drop-in crate", &numbered(&said), &ours)?;
     if call.count == 0 {
         tally.calls += 1;
-        same("all pieces by the drop-in crate", &whole.decoded, &calmly(DROP_IN, || pieces(&call.file))?)?;
+        same_samples("all pieces by the drop-in crate", &whole.decoded, &calmly(DROP_IN, || pieces(&call.file))?)?;
     }
     calmly("the host boundary", || rooms::check(call, &said, tally))?
 }
@@ -32,18 +32,6 @@ pub fn check(call: &Call, tally: &mut Tally) -> Result<(), Difference> {
 fn numbered(said: &Result<Vec<i32>, Refused>) -> Read {
     let bits = |refused: &Refused| if refused.number == 4 { refused.told as i16 } else { 0 };
     said.as_ref().cloned().map_err(|refused| (refused.number, bits(refused)))
-}
-
-fn same(what: &str, one: &Read, other: &Read) -> Result<(), Difference> {
-    match (one, other) {
-        _ if one == other => Ok(()),
-        (Ok(one), Ok(other)) if one.len() == other.len() => differ_in(&format!("{what}, sample"), one, other),
-        _ => {
-            let [one, other] =
-                [one, other].map(|said| said.as_ref().map(|samples| format!("{} samples", samples.len())));
-            differ(what, &format!("{one:?}"), &format!("{other:?}"))
-        }
-    }
 }
 
 /// The reference, held to the original: to what opening refuses, and where the frames are there to the whole decode of the file in which only the
@@ -62,7 +50,7 @@ fn refer(call: &Call, whole: &Said, said: &Result<Vec<i32>, Refused>) -> Result<
     }
     refer_to_mended(call, opened, said)?;
     match &whole.decoded {
-        Ok(samples) => same(REFERENCE, &Ok(cut(call, opened.channels, samples).to_vec()), &numbered(said)),
+        Ok(samples) => same_samples(REFERENCE, &Ok(cut(call, opened.channels, samples).to_vec()), &numbered(said)),
         Err(_) => Ok(()),
     }
 }
@@ -71,7 +59,7 @@ fn refer_to_mended(call: &Call, opened: &Opened, said: &Result<Vec<i32>, Refused
     let file = mended(&call.file, touched(call.first, call.count));
     let rust = calmly(RUST, || original(&file))?.decoded;
     let cut = rust.map(|samples| cut(call, opened.channels, &samples).to_vec());
-    same(REFERENCE, &cut, &numbered(said))?;
+    same_samples(REFERENCE, &cut, &numbered(said))?;
     match said {
         Ok(_) => Ok(()),
         Err(refused) => {

@@ -1,14 +1,11 @@
 //! What either side says of a range. The original decodes whole files alone.
 use super::Call;
 use crate::errors::refused;
-use crate::input::Refused;
+use crate::input::Read;
 use crate::reading::sides::{original, Said};
 use std::cell::RefCell;
 use std::io::Cursor;
 use std::rc::Rc;
-
-/// Samples, or the number and the bits word.
-pub type Read = Result<Vec<i32>, Refused>;
 
 thread_local! {
     static LAST: RefCell<Option<(Vec<u8>, Rc<Said>)>> = const { RefCell::new(None) };

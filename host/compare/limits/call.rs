@@ -11,8 +11,6 @@ use std::io::{stdout, Write};
 use std::slice;
 use std::time::Instant;
 
-pub const DEPTH: u16 = 24;
-
 /// Less than any file has.
 const ROOM: usize = 100;
 
@@ -29,6 +27,7 @@ pub enum Operation<'a> {
 pub struct Call<'a> {
     pub operation: Operation<'a>,
     pub channels: u16,
+    pub depth: u16,
     pub samples: &'a [i32],
     /// What they are in words.
     pub kind: &'a str,
@@ -63,7 +62,7 @@ impl Call<'_> {
             Operation::Reencode(template) => format!("re-encode, a template of {} bytes", template.len()),
         };
         let frames = self.samples.len() / usize::from(self.channels);
-        print!("{what}, channels {}, {frames} frames of {}: ", self.channels, self.kind);
+        print!("{what}, channels {}, depth {}, {frames} frames of {}: ", self.channels, self.depth, self.kind);
         stdout().flush().expect("standard output");
         Instant::now()
     }
@@ -86,12 +85,12 @@ impl Call<'_> {
 
     /// None of them concerns a group.
     fn check_word(&self, template: &[u8], tally: &mut Tally) -> Result<(), Difference> {
-        let call = |room| boundary::reencode_refusal(self.bytes(), self.channels, DEPTH, RATE, template, room);
+        let call = |room| boundary::reencode_refusal(self.bytes(), self.channels, self.depth, RATE, template, room);
         check_words("ncw_reencode_refusal", call, &[ROOM], 0, Some(nowhere(self.number)), tally)
     }
 
     fn by_original(&self) -> u32 {
-        let spec = ncw::PcmSpec { channels: self.channels, bits_per_sample: DEPTH, sample_rate: RATE };
+        let spec = ncw::PcmSpec { channels: self.channels, bits_per_sample: self.depth, sample_rate: RATE };
         let said = match self.operation {
             Operation::Encode(mode) => ncw::encode_pcm(self.samples, spec, MODES[mode as usize]),
             Operation::Reencode(template) => ncw::encode_pcm_with_template(self.samples, spec, template),
@@ -100,7 +99,7 @@ impl Call<'_> {
     }
 
     fn by_drop_in(&self) -> u32 {
-        let spec = ours::PcmSpec { channels: self.channels, bits_per_sample: DEPTH, sample_rate: RATE };
+        let spec = ours::PcmSpec { channels: self.channels, bits_per_sample: self.depth, sample_rate: RATE };
         let said = match self.operation {
             Operation::Encode(mode) => ours::encode_pcm(self.samples, spec, OUR_MODES[mode as usize]),
             Operation::Reencode(template) => ours::encode_pcm_with_template(self.samples, spec, template),
@@ -109,10 +108,10 @@ impl Call<'_> {
     }
 
     fn by_boundary(&self, room: &mut [u8]) -> u64 {
-        let (bytes, channels) = (self.bytes(), self.channels);
+        let (bytes, channels, depth) = (self.bytes(), self.channels, self.depth);
         match self.operation {
-            Operation::Encode(mode) => boundary::encode(bytes, channels, DEPTH, RATE, mode, room),
-            Operation::Reencode(template) => boundary::reencode(bytes, channels, DEPTH, RATE, template, room),
+            Operation::Encode(mode) => boundary::encode(bytes, channels, depth, RATE, mode, room),
+            Operation::Reencode(template) => boundary::reencode(bytes, channels, depth, RATE, template, room),
         }
     }
 

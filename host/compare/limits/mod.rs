@@ -1,18 +1,21 @@
 //! Calls with more samples than memory holds: 33 and 37, each from both sides of its limit.
 mod call;
+mod eight;
 mod large;
 
 use crate::input::Difference;
 use crate::random::Random;
 use crate::report::print;
 use crate::writing::RATE;
-use call::{Call, Operation, Tally, DEPTH};
+use call::{Call, Operation, Tally};
 use large::Large;
 use std::time::Instant;
 
 /// The most frames that there may be, and one more.
 const MOST: usize = u32::MAX as usize;
 const TOO_MANY: usize = MOST + 1;
+
+const DEPTH: u16 = 24;
 
 const AUTO: Operation = Operation::Encode(0);
 const MID_SIDE: Operation = Operation::Encode(2);
@@ -36,8 +39,14 @@ pub fn run() -> bool {
     found.is_none()
 }
 
+/// At 24 bits.
+fn call<'a>(operation: Operation<'a>, channels: u16, samples: &'a [i32], kind: &'a str, number: u32) -> Call<'a> {
+    Call { operation, channels, depth: DEPTH, samples, kind, number }
+}
+
 /// The noise is even, so that there is mid/side.
 fn all(tally: &mut Tally) -> Result<(), Difference> {
+    eight::size(tally)?;
     let mut random = Random::new(1);
     let mut noise = Large::new(2 * TOO_MANY, || 2 * random.signed(u32::from(DEPTH) - 1));
     frames(&mut noise, tally)?;
@@ -45,7 +54,8 @@ fn all(tally: &mut Tally) -> Result<(), Difference> {
     size(&mut noise, tally)?;
     most(&mut noise, tally)?;
     let silence = Large::new(MOST, || 0);
-    Call { operation: AUTO, channels: 1, samples: silence.first(MOST), kind: "silence", number: 50 }.check_ours(tally)
+    call(AUTO, 1, silence.first(MOST), "silence", 50).check_ours(tally)?;
+    eight::frames(tally)
 }
 
 /// 33, and what comes after it. An original whose limit is too high differs in the first call, and takes no memory.
@@ -66,7 +76,7 @@ fn frames(noise: &mut Large, tally: &mut Tally) -> Result<(), Difference> {
         (without_frames, 2, MOST, 40),
     ] {
         let samples = noise.first(frames * usize::from(channels));
-        Call { operation, channels, samples, kind: "noise, the first sample odd", number }.check(tally)?;
+        call(operation, channels, samples, "noise, the first sample odd", number).check(tally)?;
     }
     noise.put(0, 0);
     Ok(())
@@ -76,8 +86,7 @@ fn frames(noise: &mut Large, tally: &mut Tally) -> Result<(), Difference> {
 fn value(noise: &mut Large, tally: &mut Tally) -> Result<(), Difference> {
     noise.put(TOO_MANY - 1, 1 << (DEPTH - 1));
     for operation in [AUTO, EMPTY] {
-        let samples = noise.first(TOO_MANY);
-        Call { operation, channels: 1, samples, kind: "noise, the last sample outside", number: 32 }.check(tally)?;
+        call(operation, 1, noise.first(TOO_MANY), "noise, the last sample outside", 32).check(tally)?;
     }
     noise.put(TOO_MANY - 1, 0);
     Ok(())
@@ -90,18 +99,17 @@ fn size(noise: &mut Large, tally: &mut Tally) -> Result<(), Difference> {
     for (width, number) in [(19, 50), (20, 37)] {
         noise.put(frames - 1, 1 << (width - 2));
         let kind = &format!("noise, the last block of width {width}");
-        Call { operation: AUTO, channels: 1, samples: noise.first(frames), kind, number }.check_ours(tally)?;
+        call(AUTO, 1, noise.first(frames), kind, number).check_ours(tally)?;
     }
     Ok(())
 }
 
 /// 35 comes before 37.
 fn most(noise: &mut Large, tally: &mut Tally) -> Result<(), Difference> {
-    Call { operation: AUTO, channels: 1, samples: noise.first(MOST), kind: "noise", number: 37 }.check_ours(tally)?;
+    call(AUTO, 1, noise.first(MOST), "noise", 37).check_ours(tally)?;
     for (last, kind, number) in [(0, "noise", 37), (1, "noise, the last sample odd", 35)] {
         noise.put(2 * MOST - 1, last);
-        let samples = noise.first(2 * MOST);
-        Call { operation: MID_SIDE, channels: 2, samples, kind, number }.check_ours(tally)?;
+        call(MID_SIDE, 2, noise.first(2 * MOST), kind, number).check_ours(tally)?;
     }
     Ok(())
 }

@@ -2,7 +2,7 @@
 use super::answers::Tally;
 use super::sides::{drop_in, original, Said};
 use super::{rooms, watched};
-use crate::input::{calmly, differ, differ_in, Difference, Refused};
+use crate::input::{calmly, differ, in_short, same_samples, Difference};
 use crate::located;
 use crate::refusals::{self, REFERENCE};
 
@@ -15,9 +15,7 @@ pub fn check(file: &[u8], tally: &mut Tally) -> Result<(), Difference> {
         let [rust, ours] = [&rust, &ours].map(|said| in_short(&said.opened, |opened| format!("{opened:?}")));
         return differ("opening by the drop-in crate", &rust, &ours);
     }
-    if rust.decoded != ours.decoded {
-        return differ_in_samples(&rust.decoded, &ours.decoded);
-    }
+    same_samples("decoding by the drop-in crate", &rust.decoded, &ours.decoded)?;
     let located = calmly(REFERENCE, || refer(file, &rust))??;
     tally.answers.places.note(located);
     let said = calmly("the drop-in crate", || ours::decode_refusal(file, usize::MAX))?;
@@ -35,25 +33,4 @@ fn refer(file: &[u8], rust: &Said) -> Result<Option<located::Refused>, Differenc
         refusals::same_place("decoding", (group, if refused.number == 22 { 0 } else { channel }), refused)?;
     }
     Ok(located)
-}
-
-type Samples = Result<Vec<i32>, Refused>;
-
-fn differ_in_samples(rust: &Samples, ours: &Samples) -> Result<(), Difference> {
-    let what = "decoding by the drop-in crate";
-    match (rust, ours) {
-        (Ok(rust), Ok(ours)) if rust.len() == ours.len() => differ_in(&format!("{what}, sample"), rust, ours),
-        _ => {
-            let [rust, ours] = [rust, ours].map(|said| in_short(said, |samples| format!("{} samples", samples.len())));
-            differ(what, &rust, &ours)
-        }
-    }
-}
-
-fn in_short<T>(said: &Result<T, Refused>, success: impl Fn(&T) -> String) -> String {
-    match said {
-        Ok(found) => success(found),
-        Err((4, bits)) => format!("refused 4 with {bits}"),
-        Err((number, _)) => format!("refused {number}"),
-    }
 }

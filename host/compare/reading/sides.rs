@@ -1,7 +1,7 @@
 //! What either side says of a file: the Rust original, and ours by its drop-in crate.
 use crate::asking::{ask, Answer, Question};
 use crate::errors::refused;
-use crate::input::Refused;
+use crate::input::{Read, Refused};
 use std::io::Cursor;
 
 #[derive(Debug, PartialEq)]
@@ -18,7 +18,7 @@ pub struct Opened {
 
 pub struct Said {
     pub opened: Result<Opened, Refused>,
-    pub decoded: Result<Vec<i32>, Refused>,
+    pub decoded: Read,
 }
 
 /// Both crates have the same public names, in types of their own.
@@ -45,12 +45,17 @@ impl Said {
 
 pub fn original(file: &[u8]) -> Said {
     match ncw::NcwReader::read(Cursor::new(file)) {
-        Ok(reader) => Said { opened: Ok(opened!(ncw, reader)), decoded: answered(Question::Decode(file.to_vec())) },
+        Ok(reader) => Said { opened: Ok(opened!(ncw, reader)), decoded: decoded(file) },
         Err(_) => Said::refused(answered(Question::Open(file.to_vec())).expect_err("it was refused before")),
     }
 }
 
-fn answered(question: Question) -> Result<Vec<i32>, Refused> {
+/// The samples of a file, by the original.
+pub fn decoded(file: &[u8]) -> Read {
+    answered(Question::Decode(file.to_vec()))
+}
+
+fn answered(question: Question) -> Read {
     match ask(&question) {
         Answer::Refused(number, bits) => Err((number, bits)),
         Answer::Samples(samples) => Ok(samples),

@@ -14,7 +14,7 @@ pub fn check(call: &Call, tally: &mut Tally) -> Result<(), Difference> {
     if let Some(ours) = calmly("the drop-in crate", || drop_in(call))? {
         tally.calls += 1;
         let (ours, ours_word) = apart(ours);
-        same("re-encoding", &rust, &ours)?;
+        same("re-encoding by the drop-in crate", &rust, &ours)?;
         if word != ours_word {
             return differ("the bits word by the drop-in crate", &word.to_string(), &ours_word.to_string());
         }

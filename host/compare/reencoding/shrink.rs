@@ -3,7 +3,7 @@ use super::Call;
 use crate::parts::{parts, File};
 use crate::shrink::{fewer, stretches};
 use crate::simpler::edits;
-use crate::writing::shrink::alone;
+use crate::writing::shrink::without;
 use crate::writing::{Sampled, RATE};
 
 type Search = crate::shrink::Search<Call>;
@@ -59,7 +59,7 @@ impl Search {
 fn with_file(call: &Call, old: &File, new: &File, channel: usize) -> Call {
     let mut call = Call { template: new.bytes(), ..call.clone() };
     if call.channels == old.channels && new.channels < old.channels {
-        call = call.with(&alone(&call.numbers().unwrap_or_default(), channel));
+        call = call.with(&without(&call.numbers().unwrap_or_default(), 1 - channel, 2));
         call.channels = new.channels;
     }
     let most = 4 * new.frames as usize * usize::from(call.channels.clamp(1, 2));

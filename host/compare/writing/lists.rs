@@ -20,38 +20,36 @@ pub fn by_groups(channels: u16, depth: u16, frames: usize, random: &mut Random) 
 }
 
 /// The limits of each width up to `most`, and one beyond each.
-pub fn edges(most: u16) -> Vec<i32> {
+pub fn edges(most: u16) -> Vec<i64> {
     (1..=most).flat_map(edges_of).collect()
 }
 
 /// The highest and the lowest number of a width, and one beyond each.
-pub fn edges_of(width: u16) -> [i32; 4] {
+pub fn edges_of(width: u16) -> [i64; 4] {
     let edge = 1 << (width - 1);
     [edge - 1, -edge, edge, -edge - 1]
 }
 
-/// From one value to another that is `step` away after frame `at`, both about as far from zero.
-pub fn stepped(step: i32, (at, frames): (usize, usize)) -> Vec<i32> {
-    let from = from_of(step);
-    (0..frames).map(|k| if k <= at { from } else { from + step }).collect()
+/// From one value to another that is `step` away after frame `at`.
+pub fn stepped(step: i64, (at, frames): (usize, usize)) -> Vec<i32> {
+    let [from, to] = apart(step);
+    (0..frames).map(|k| if k <= at { from } else { to }).collect()
 }
 
 /// One sample is `step` away from all others.
-pub fn spiked(step: i32, (at, frames): (usize, usize)) -> Vec<i32> {
-    let from = from_of(step);
-    (0..frames).map(|k| if k == at { from + step } else { from }).collect()
+pub fn spiked(step: i64, (at, frames): (usize, usize)) -> Vec<i32> {
+    let [from, to] = apart(step);
+    (0..frames).map(|k| if k == at { to } else { from }).collect()
 }
 
-/// About as far from zero as what is `step` away from it.
-pub fn from_of(step: i32) -> i32 {
-    if step < 0 {
-        -step / 2
-    } else {
-        -((step + 1) / 2)
-    }
+/// Two values that are `step` apart, both about as far from zero. The longest step is from one end of 32 bits to the other.
+pub fn apart(step: i64) -> [i32; 2] {
+    let from = if step < 0 { -step / 2 } else { -((step + 1) / 2) };
+    [from, from + step].map(|value| value.try_into().expect("a number of 32 bits"))
 }
 
-/// Alone; beside zeros on either side; the same twice, so that mid has it; with the other sign, so that side has it.
+/// Alone; beside zeros on either side; the same twice, so that mid has it; with the other sign, so that side has it. The lowest
+/// number of 32 bits has no other sign.
 pub const FORMS: usize = 5;
 
 pub fn formed(form: usize, channel: Vec<i32>) -> (u16, Vec<i32>) {
@@ -61,8 +59,14 @@ pub fn formed(form: usize, channel: Vec<i32>) -> (u16, Vec<i32>) {
         1 => (2, woven(&channel, &zeros)),
         2 => (2, woven(&zeros, &channel)),
         3 => (2, woven(&channel, &channel)),
-        _ => (2, woven(&channel, &channel.iter().map(|sample| -sample).collect::<Vec<_>>())),
+        _ => (2, woven(&channel, &channel.iter().map(|sample| sample.wrapping_neg()).collect::<Vec<_>>())),
     }
+}
+
+/// One channel of so many; each other one has a value of its own all the time.
+pub fn among(channels: u16, channel: u16, list: &[i32]) -> Vec<i32> {
+    let other = |k: u16| i32::from(k) + 1;
+    list.iter().flat_map(|own| (0..channels).map(move |k| if k == channel { *own } else { other(k) })).collect()
 }
 
 // ---- frames of equal parity but for one

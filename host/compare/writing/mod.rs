@@ -6,8 +6,7 @@ pub mod shrink;
 use crate::input::{differ, differ_in, word, Difference};
 use crate::lent::Written;
 
-/// What the writer accepts.
-pub const CHANNELS: [u16; 2] = [1, 2];
+/// The depths that re-encoding accepts, and that the original encodes.
 pub const DEPTHS: [u16; 2] = [16, 24];
 
 pub const RATE: u32 = 44_100;
@@ -28,9 +27,8 @@ pub trait Sampled: Sized {
     }
 }
 
-/// Holds what the drop-in crate wrote to what the original did.
+/// Holds what was written to what has to be.
 pub fn same(what: &str, rust: &Written, ours: &Written) -> Result<(), Difference> {
-    let what = format!("{what} by the drop-in crate");
     match (rust, ours) {
         _ if rust == ours => Ok(()),
         (Ok(rust), Ok(ours)) if rust.len() == ours.len() => differ_in(&format!("{what}, byte"), rust, ours),
@@ -39,7 +37,7 @@ pub fn same(what: &str, rust: &Written, ours: &Written) -> Result<(), Difference
                 Ok(file) => format!("{} bytes", file.len()),
                 Err(number) => word(*number),
             });
-            differ(&what, &rust, &ours)
+            differ(what, &rust, &ours)
         }
     }
 }

@@ -33,7 +33,8 @@ impl<I: Input + Sampled> Search<I> {
     }
 }
 
-/// The samples of one channel of two.
-pub fn alone(samples: &[i32], channel: usize) -> Vec<i32> {
-    samples.iter().skip(channel).step_by(2).copied().collect()
+/// The samples of all channels but one.
+pub fn without(samples: &[i32], channel: usize, channels: usize) -> Vec<i32> {
+    let others = samples.iter().enumerate().filter(|(k, _)| k % channels != channel);
+    others.map(|(_, sample)| *sample).collect()
 }

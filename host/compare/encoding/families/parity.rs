@@ -3,16 +3,15 @@ use super::{Call, Part, MODES};
 use crate::picks::Picks;
 use crate::samples::limits;
 use crate::writing::lists::{add, place, woven, ADDED, PLACES};
-use crate::writing::DEPTHS;
 
 const FRAMES: [usize; 11] = [1, 2, 3, 100, 511, 512, 513, 700, 1_024, 1_025, 1_100];
 const KINDS: usize = 6;
 
-pub fn all() -> Part {
-    Part::new(FRAMES.len() * PLACES * ADDED.len() * KINDS * DEPTHS.len() * MODES.len(), |k| {
+pub fn all(depths: [u16; 2]) -> Part {
+    Part::new(FRAMES.len() * PLACES * ADDED.len() * KINDS * depths.len() * MODES.len(), move |k| {
         let picks = &mut Picks(k);
         let (frames, at, added) = (picks.pick(&FRAMES), picks.below(PLACES), picks.pick(&ADDED));
-        let (kind, depth, mode) = (picks.below(KINDS), picks.pick(&DEPTHS), picks.pick(&MODES));
+        let (kind, depth, mode) = (picks.below(KINDS), picks.pick(&depths), picks.pick(&MODES));
         let (left, right) = even(kind, frames, depth);
         let mut samples = woven(&left, &right);
         add(&mut samples, place(at, frames), added);
@@ -31,7 +30,7 @@ fn even(kind: usize, frames: usize, depth: u16) -> (Vec<i32>, Vec<i32>) {
         3 => flat(low + 1, low + 1),
         4 => flat(high - 1, low + 2),
         _ => {
-            let rising: Vec<i32> = (0..frames as i32).map(|k| 7 * k % 1_000).collect();
+            let rising: Vec<i32> = (0..frames as i32).map(|k| 7 * k % high.min(1_000)).collect();
             (rising.clone(), rising)
         }
     }

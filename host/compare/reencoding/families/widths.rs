@@ -4,7 +4,7 @@ use super::{variants, Call, Part};
 use crate::files::{Block, File};
 use crate::picks::Picks;
 use crate::random::Random;
-use crate::writing::lists::{edges_of, formed, from_of, stepped, FORMS};
+use crate::writing::lists::{apart, edges_of, formed, stepped, FORMS};
 use crate::writing::{DEPTHS, RATE};
 
 const BITS_WORDS: usize = 65;
@@ -80,7 +80,7 @@ fn differences(depth: u16) -> Part {
         let width = 2 + picks.below(widths) as u16;
         let (step, place, form) = (edges_of(width)[picks.below(4)], picks.pick(&PLACES), picks.below(FORMS));
         let samples = stepped(step, (place.0 - 1, place.1));
-        even(depth, width as i16, form, from_of(step) + step, samples, k)
+        even(depth, width as i16, form, apart(step)[1], samples, k)
     })
 }
 
@@ -92,7 +92,7 @@ fn raw(depth: u16) -> Part {
         let width = 1 + picks.below(widths) as u16;
         let (value, (at, frames), form) = (edges_of(width)[picks.below(4)], picks.pick(&PLACES), picks.below(FORMS));
         let mut samples = vec![0; frames];
-        samples[at - 1] = value;
+        samples[at - 1] = value as i32;
         even(depth, -(width as i16), form, 0, samples, k)
     })
 }
