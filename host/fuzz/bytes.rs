@@ -116,8 +116,8 @@ impl Fuzzed for encoding::Call {
     }
 }
 
-/// As those of encoding. But unless the rate is the highest it becomes a call that only the original refuses by 30, in a mode that there is, with whole frames
-/// of samples within the depth. What is so already stays.
+/// As those of encoding. But unless the rate is the highest it becomes a call that only the original refuses by 30, in a
+/// mode that there is, with whole frames of samples within the depth. What is so already stays.
 pub fn wide(bytes: &[u8]) -> Option<encoding::Call> {
     let call = encoding::Call::from_bytes(bytes)?;
     Some(if call.rate == u32::MAX { call } else { widened(call) })

@@ -20,8 +20,8 @@ fn call<'a>(operation: Operation<'a>, noise: &'a Large, frames: usize, kind: &'a
     Call { operation, channels: CHANNELS as u16, depth: DEPTH, samples: noise.first(CHANNELS * frames), kind, number }
 }
 
-/// 30 of re-encoding, and of a channel more. 37 with data of 2^32 bytes, 50 with 64 bytes less: the last group has two frames, with a step of width 28 in each
-/// channel but the last.
+/// 30 of re-encoding, and of a channel more. 37 with data of 2^32 bytes, 50 with 64 bytes less: the last group has two
+/// frames, with a step of width 28 in each channel but the last.
 pub fn size(tally: &mut Tally) -> Result<(), Difference> {
     let (frames, step) = (512 * RAW_GROUPS + 2, |width: u32| 1 << (width - 2));
     let mut noise = noise(frames);

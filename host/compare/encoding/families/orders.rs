@@ -6,8 +6,8 @@ const MODES: [u32; 2] = [0, 2];
 
 type Fault = fn(&mut Call);
 
-/// 38, 39, 30 by the rate, by channels, by the depth, 31, 32 but for 32 bits, 35 where there are two channels. In MidSide 34 is there by itself, where
-/// there are not.
+/// 38, 39, 30 by the rate, by channels, by the depth, 31, 32 but at 32 bits, in MidSide 35 of two channels. Without two
+/// channels MidSide is 34 by itself.
 const FAULTS: [Fault; 8] = [
     |call| call.mode = 3,
     |call| call.samples.truncate(call.samples.len() - 1),
