@@ -75,8 +75,8 @@ fn framed(which: Container, words: &[i32], bytes: &[u8], channels: u16) -> Frame
     samples.frames(channels)
 }
 
-// Whether every sample lies in the depth's own range. All lie in that of 32 bits: with that depth as a constant there is
-// nothing left to ask, and the compiler leaves no loop.
+// Whether every sample lies in the depth's own range. All lie in that of 32 bits: with that depth as a constant nothing
+// is left to ask, and the compiler leaves no loop.
 fn none_outside(which: Container, words: &[i32], bytes: &[u8], depth: Depth) -> bool
     ensures { λ r. ⌜ (let lent = lentOf which (now (words .entry)) (now (bytes .entry)) in
         r ≡ every (within depth) lent) ⌝ }
