@@ -1,6 +1,7 @@
 //! Calls of encoding with any settings that document 02 takes, and some that it does not. They have few samples, since a block takes long.
 use crate::asking::Question;
 use crate::random::{Deck, Random};
+use crate::samples::{limits, woven};
 use ncw::{PcmSpec, StereoMode};
 
 pub struct Maker {
@@ -34,13 +35,13 @@ impl Maker {
         let r = &mut self.random;
         let (channels, depth) = (self.channels.draw(r), self.depths.draw(r));
         let frames = r.pick(&[0, 1, 2, 2, 3, 3, 5, 9]);
-        let each: Vec<Vec<i32>> = (0..channels).map(|_| channel(depth.into(), frames, r)).collect();
+        let each: Vec<Vec<i32>> = (0..channels).map(|_| channel(depth, frames, r)).collect();
         let mut samples = woven(&each, frames);
         if !r.once_in(4) {
             samples.chunks_mut(channels.into()).for_each(of_one_parity);
         }
         for _ in 0..r.pick(&[0, 0, 0, 0, 0, 1, 2]) {
-            spoil(&mut samples, depth.into(), r);
+            spoil(&mut samples, depth, r);
         }
         let spec = PcmSpec { channels, bits_per_sample: depth, sample_rate: r.pick(&[1, 44_100, u32::MAX]) };
         Question::Encode(spec, self.modes.draw(r), samples)
@@ -59,34 +60,25 @@ fn far_pairs(random: &mut Random) -> Question {
     Question::Encode(spec, random.pick(&[StereoMode::MidSide, StereoMode::MidSide, StereoMode::Auto]), samples)
 }
 
-/// The lowest and the highest number of so many bits.
-fn ends(bits: u32) -> (i32, i32) {
-    (i32::MIN >> (32 - bits), i32::MAX >> (32 - bits))
-}
-
 /// Any numbers of some width, both ends of the depth, one number, or one step at the edge of a width.
-fn channel(depth: u32, frames: usize, random: &mut Random) -> Vec<i32> {
-    let (low, high) = ends(depth);
-    let bits = random.between(1, depth.into()) as u32;
+fn channel(depth: u16, frames: usize, random: &mut Random) -> Vec<i32> {
+    let (low, high) = limits(depth);
+    let bits = random.between(1, depth.into()) as u16;
     match random.below(4) {
-        0 => (0..frames).map(|_| random.signed(bits)).collect(),
+        0 => (0..frames).map(|_| random.signed(bits.into())).collect(),
         1 => (0..frames).map(|_| random.pick(&[low, high])).collect(),
-        2 => vec![random.signed(bits); frames],
-        _ => stepped(ends(bits), depth, frames, random),
+        2 => vec![random.signed(bits.into()); frames],
+        _ => stepped(limits(bits), depth, frames, random),
     }
 }
 
 /// The step is held by the width whose ends these are, or is just beyond it.
-fn stepped((low, high): (i32, i32), depth: u32, frames: usize, random: &mut Random) -> Vec<i32> {
+fn stepped((low, high): (i32, i32), depth: u16, frames: usize, random: &mut Random) -> Vec<i32> {
     let step = i64::from(random.pick(&[low, high])) + random.between(-1, 1);
     let (at, from) = (random.below(frames.max(1)), -step / 2);
-    let (lowest, highest) = ends(depth);
+    let (lowest, highest) = limits(depth);
     let kept = |value: i64| value.clamp(lowest.into(), highest.into()) as i32;
     (0..frames).map(|frame| kept(if frame < at { from } else { from + step })).collect()
-}
-
-fn woven(channels: &[Vec<i32>], frames: usize) -> Vec<i32> {
-    (0..frames).flat_map(|frame| channels.iter().map(move |channel| channel[frame])).collect()
 }
 
 /// That of the first sample.
@@ -96,8 +88,8 @@ fn of_one_parity(frame: &mut [i32]) {
 }
 
 /// An incomplete frame, or a value just outside the depth, if there are any outside.
-fn spoil(samples: &mut Vec<i32>, depth: u32, random: &mut Random) {
-    let (low, high) = ends(depth);
+fn spoil(samples: &mut Vec<i32>, depth: u16, random: &mut Random) {
+    let (low, high) = limits(depth);
     match samples.last_mut() {
         Some(last) if random.once_in(2) => *last = random.pick(&[low.saturating_sub(1), high.saturating_add(1)]),
         _ => drop(samples.pop()),

@@ -116,9 +116,9 @@ fn count(cases: &[Case]) {
         let refused = of_kind().filter(|(_, answer)| matches!(answer, Answer::Refused(..)));
         println!("{kind}: {} cases, {} of them refused", of_kind().count(), refused.count());
     }
-    let widened: Vec<&Case> = cases.iter().filter(|(question, _)| is_widened(question)).collect();
-    let written = widened.iter().filter(|(_, answer)| matches!(answer, Answer::Bytes(_))).count();
-    println!("encode, where the original refuses by 30: {} cases, {written} of them written", widened.len());
+    let refused_30: Vec<&Case> = cases.iter().filter(|(question, _)| is_30_by_original(question)).collect();
+    let written = refused_30.iter().filter(|(_, answer)| matches!(answer, Answer::Bytes(_))).count();
+    println!("encode, where the original refuses by 30: {} cases, {written} of them written", refused_30.len());
     println!("refused, number x times: {}", times(cases.iter().filter_map(refused)));
     let ranges: Vec<_> = numbered(cases).into_iter().flat_map(|(k, question, _)| ranges::ranges(k, question)).collect();
     let refused = ranges.iter().filter_map(|(_, _, said)| said.as_ref().err()).map(|refused| refused.number);
@@ -126,7 +126,7 @@ fn count(cases: &[Case]) {
     println!("bits words read: {} of the 65 from -32 to 32", bits_words(cases).len());
 }
 
-fn is_widened(question: &Question) -> bool {
+fn is_30_by_original(question: &Question) -> bool {
     matches!(question, Question::Encode(..)) && matches!(asking::ask(question), Answer::Refused(30, _))
 }
 

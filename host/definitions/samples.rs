@@ -8,6 +8,11 @@ pub fn samples(spec: PcmSpec, frames: usize, random: &mut Random) -> Vec<i32> {
     for before in 0..usize::from(spec.channels).saturating_sub(1) {
         channels.push(beside(&channels[before], spec.bits_per_sample, random));
     }
+    woven(&channels, frames)
+}
+
+/// The channels frame by frame.
+pub fn woven(channels: &[Vec<i32>], frames: usize) -> Vec<i32> {
     (0..frames).flat_map(|frame| channels.iter().map(move |channel| channel[frame])).collect()
 }
 

@@ -19,9 +19,10 @@ pub fn encoding(spec: PcmSpec, mode: StereoMode, samples: &[i32]) -> Result<Vec<
     said
 }
 
-/// Document 02's limits.
+/// Document 02's limits, without those of the original.
 fn is_taken(spec: PcmSpec) -> bool {
-    (1..=8).contains(&spec.channels) && [8, 16, 24, 32].contains(&spec.bits_per_sample) && spec.sample_rate != 0
+    let within = |most, depths: &[u16]| (1..=most).contains(&spec.channels) && depths.contains(&spec.bits_per_sample);
+    within(8, &[8, 16, 24, 32]) && !within(2, &[16, 24]) && spec.sample_rate != 0
 }
 
 fn of_original(spec: PcmSpec, mode: StereoMode, samples: &[i32]) -> Result<Vec<u8>, u32> {

@@ -4,6 +4,7 @@ use crate::answers::writing;
 use crate::draw::{Draw, Samples};
 use crate::encodings::{case, case_in, in_all_modes, spec, Encoding};
 use crate::random::Random;
+use crate::samples::limits;
 use crate::tape::{Tape, MOST_SAMPLES, SPACE};
 use ncw::{PcmSpec, StereoMode};
 
@@ -143,7 +144,7 @@ fn ask(tape: &mut Tape, spec: PcmSpec, samples: impl Into<Samples>) {
 
 /// Three frames of one parity each. A channel has both ends of the depth, any numbers, small ones, or one.
 fn few(channels: u16, depth: u16, random: &mut Random) -> Vec<i32> {
-    let (low, high) = (LOW >> (32 - depth), HIGH >> (32 - depth));
+    let (low, high) = limits(depth);
     let mut samples = Vec::new();
     for (frame, end) in [low, high, low].into_iter().enumerate() {
         for channel in 0..channels {

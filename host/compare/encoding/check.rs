@@ -7,7 +7,7 @@ use crate::lent::Written;
 use crate::located::Refused;
 use crate::reading::sides::decoded;
 use crate::refusals::same_place;
-use crate::writing::{same, Sampled};
+use crate::writing::{same, Sampled, DEPTHS};
 
 const RUST: &str = "the Rust original";
 const REFERENCE: &str = "the reference of encoding";
@@ -36,10 +36,10 @@ fn decided(call: &Call, rust: Written, said: Result<Vec<u8>, Refused>) -> Result
     let samples = call.numbers().expect("39 comes before");
     let refused = said.as_ref().err().copied();
     let written = said.map_err(|refused| refused.number);
-    if rust == Err(30) && written != Err(30) {
+    if is_widened(call) && rust == Err(30) && written != Err(30) {
         if let Ok(file) = &written {
             let what = format!("{REFERENCE}, its file by the original's reader");
-            same_samples(&what, &Ok(samples), &calmly(RUST, || decoded(file))?)?;
+            same_samples(&what, &calmly(RUST, || decoded(file))?, &Ok(samples))?;
         }
         return Ok(written);
     }
@@ -48,6 +48,11 @@ fn decided(call: &Call, rust: Written, said: Result<Vec<u8>, Refused>) -> Result
         same_place("encoding", (calmly(RUST, || first_refused(call, &samples))?, 0), refused)?;
     }
     Ok(rust)
+}
+
+/// Whether the original has to refuse channels or depth: it takes mono and stereo of 16 and 24 bits.
+fn is_widened(call: &Call) -> bool {
+    !([1, 2].contains(&call.channels) && DEPTHS.contains(&call.depth))
 }
 
 /// 35 is in the first group with which the original refuses.

@@ -1,4 +1,4 @@
-//! The host boundary's call, held to the original's answer.
+//! The host boundary's call, held to what has to be written.
 use super::answers::Tally;
 use super::Call;
 use crate::boundary;

@@ -31,7 +31,7 @@ pub struct Call<'a> {
     pub samples: &'a [i32],
     /// What they are in words.
     pub kind: &'a str,
-    /// Document 01's refusal.
+    /// The documents' refusal.
     pub number: u32,
 }
 
@@ -47,7 +47,7 @@ impl Call<'_> {
         Ok(())
     }
 
-    /// The host boundary alone: the original would take memory for every group.
+    /// The host boundary alone: the original would take memory for every group, or says 30, which is its own.
     pub fn check_ours(&self, tally: &mut Tally) -> Result<(), Difference> {
         let begun = self.begin();
         self.check_boundary(tally)?;

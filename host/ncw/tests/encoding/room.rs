@@ -22,7 +22,7 @@ fn enough_and_too_little() {
 
 /// Eight channels of 32 bits, all blocks raw.
 #[test]
-fn the_longest_file_of_a_frame() {
+fn the_longest_file_of_two_frames() {
     let samples: Vec<i32> = (0..16).map(|k| if k < 8 { 0 } else { i32::MIN + k }).collect();
     let mut room = vec![0xA5; 128 + 8 * 2_064 + 1];
     let [exact, more] = [room.len() - 1, room.len()];
