@@ -3,7 +3,7 @@
 
 # The host boundary's functions by name and arguments, as Rattle has them: b are bytes, m bytes that are lent for
 # writing, h, w and l numbers of 16, 32 and 64 bits.
-boundary=(open:b decode:bm decode_strict:bm read_frames:bwwm peaks:bm peak:bwwm peaks_all:bm peaks_check:bb encode:bhhwwm reencode:bhhwbm decode_refusal:bl reencode_refusal:bhhwbl)
+boundary=(open:b decode:bm read_frames:bwwm peaks:bm peak:bwwm peaks_all:bm peaks_check:bb encode:bhhwwm reencode:bhhwbm decode_refusal:bl reencode_refusal:bhhwbl)
 
 # The crates that a crate stands on, and itself.
 under() {

@@ -57,15 +57,15 @@ width_most depth (pos zero) h = h
 width_most depth (pos (suc n)) h = width_by (suc n) (Differences (suc n)) refl (leb (suc n) 32) refl
 width_most depth (negsuc n) h = width_by (suc n) (Raw (suc n)) refl (leb (suc n) 32) refl
 
-pub bits_are : (r : List ℕ) (b : BlockHeader) → b ≡ block_header r → SFits w16 b.bits → to_z w16 (of_z w16 b.bits) ≡ bits_of r
-unfolding block_header
-bits_are r b header fits = to_z-of_z w16 b.bits fits ∙ ap (λ (x : BlockHeader). x.bits) header
-
 module _ (depth : ℕ) (r : List ℕ) (b : BlockHeader) (header : b ≡ block_header r) (fits : SFits w16 b.bits) where
+  pub bits_are : to_z w16 (of_z w16 b.bits) ≡ bits_of r
+  unfolding block_header
+  bits_are = to_z-of_z w16 b.bits fits ∙ ap (λ (x : BlockHeader). x.bits) header
+
   module _ (k : Coding) (coded : k ≡ coding depth (to_z w16 (of_z w16 b.bits))) where
     pub coding_is : k ≡ coding_of depth r
     unfolding coding_of
-    coding_is = coded ∙ ap (coding depth) (bits_are r b header fits)
+    coding_is = coded ∙ ap (coding depth) bits_are
 
     module _ (w : ℕ) (wide : w ≡ width_of k) where
       pub size_is : 16 + 64 * w ≡ size_of depth r

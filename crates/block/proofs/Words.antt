@@ -1,4 +1,4 @@
--- The bits word by range: how a block of a file of that depth is coded, and whether that is doubtful.
+-- The bits word by range: how a block of a file of that depth is coded.
 use Prim.Native.Nat.{ℕ, zero, suc, ◌+◌, ◌<◌}
 use mathlib.Core.Path.{◌≡◌, refl, sym, ap}
 use mathlib.Core.Bool.{true, false}
@@ -9,7 +9,6 @@ use mir.Syntax.{w16}
 use mir.Val.{SFits, of_z}
 use borrow.Author.Tests.{ltb-true, ltb-false, le-leb, lt-leb}
 use Rattle.format.specs.Packed.{coding}
-use Rattle.format.specs.Strict.{is_doubtful}
 use Rattle.format.specs.declared.packed.Coding.TheVariants.{Differences, Raw, Beyond}
 use Rattle.laws.proofs.Tests.{never}
 
@@ -63,25 +62,3 @@ module _ (depth : ℕ) where
       let h : suc n < 33 = ltb-true (suc n) 33 t in
       record { small = h; is = refl; coded = rw (le-leb (suc n) 32 (omega arith)) }
   positive (negsuc n) z e t = never e
-
--- ---- 0, 1 and −1; below them; above
-pub doubtful : (x : ℤ) → lt_z x (negsuc 0) ≡ false → lt_z x (pos 2) ≡ true → true ≡ is_doubtful x
-unfolding is_doubtful
-doubtful (pos zero) e t = refl
-doubtful (pos (suc zero)) e t = refl
-doubtful (pos (suc (suc n))) e t = let u = ltb-true (suc (suc n)) 2 t in absurd (omega arith)
-doubtful (negsuc zero) e t = refl
-doubtful (negsuc (suc n)) e t = let u = ltb-false 0 (suc n) e in absurd (omega arith)
-
-pub lower : (x : ℤ) → lt_z x (negsuc 0) ≡ true → false ≡ is_doubtful x
-unfolding is_doubtful
-lower (pos n) e = never (sym e)
-lower (negsuc zero) e = let u = ltb-true 0 0 e in absurd (omega arith)
-lower (negsuc (suc n)) e = refl
-
-pub higher : (x : ℤ) → lt_z x (pos 2) ≡ false → false ≡ is_doubtful x
-unfolding is_doubtful
-higher (pos zero) e = let u = ltb-false 0 2 e in absurd (omega arith)
-higher (pos (suc zero)) e = let u = ltb-false 1 2 e in absurd (omega arith)
-higher (pos (suc (suc n))) e = refl
-higher (negsuc n) e = never e

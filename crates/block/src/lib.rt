@@ -2,15 +2,12 @@
 ghost use Rattle.std.specs.Prelude.{◌≡◌, cond, not, ◌&&◌, ◌+◌, ◌*◌, ◌/◌, ◌%◌, ◌<◌, ◌≤◌, eqb, length};
 ghost use Rattle.format.specs.Packed.{coding, width_of, values, rebuilt};
 ghost use Rattle.format.specs.Blocks.{is_block, size_of, samples_of};
-ghost use Rattle.format.specs.Strict.{is_doubtful, check_doubts};
-ghost use Rattle.format.specs.Decoding.{is_float, check_flags, check_values, check_block};
+ghost use Rattle.format.specs.Decoding.{is_float, check_block};
 ghost use Rattle.bits.specs.Place.{WholeRun};
 ghost use Rattle.block.specs.Read.{block_header, Whole};
 
 use bits::Cursor;
-use format::{
-    BLOCK_SIGNATURE, Checked, Coding, Depth, Fields, NOWHERE, Reading, Refusal, SampleFormat,
-};
+use format::{BLOCK_SIGNATURE, Checked, Coding, Depth, Fields, NOWHERE, Refusal, SampleFormat};
 use le_bytes::{read_u16_le, read_u32_le};
 
 // The numbers of a block's 16-byte header. `base` is the block's first sample where its values are differences;
@@ -115,10 +112,12 @@ fn mid_side_alone(c: u16, mid: bool, channels: u16) -> bool
     false
 }
 
-// The refusals of channel c's block, which r begins with, as far as its flags. 1: no whole header. 3: block signature.
-// 20: the float bit differs from the file's. 21: mid/side without two channels, on the first channel.
-fn check_flags(h: Fields, format: SampleFormat, c: u16, r: &[u8]) -> Checked
-    ensures { result ≡ check_flags h format c r.now }
+// The refusals of channel c's block, which r begins with. 1: no whole header. 3: block signature. 20: the float bit
+// differs from the file's. 21: mid/side without two channels, on the first channel. 4: a bits word beyond 32. 1: no
+// whole values.
+pub fn check_block(h: Fields, format: SampleFormat, c: u16, r: &[u8]) -> Checked
+    requires { h.depth ≤ 32 }
+    ensures { result ≡ check_block h format c r.now }
 {
     if r.len() < Depth::BLOCK_HEADER_SIZE {
         return Checked::No(Refusal::TooShort, NOWHERE);
@@ -133,81 +132,14 @@ fn check_flags(h: Fields, format: SampleFormat, c: u16, r: &[u8]) -> Checked
     if mid_side_alone(c, b.is_mid_side(), h.channels) {
         return Checked::No(Refusal::MidSideChannels, NOWHERE);
     }
-    Checked::Fine
-}
-
-// Whether one of two bits is set, and not the other.
-fn differ(first: bool, other: bool) -> bool
-    ensures { result ≡ cond first (not other) other }
-{
-    first != other
-}
-
-// Whether nobody is sure what a bits word means to the sampler: 0, 1 and −1.
-fn is_doubtful(bits: i16) -> bool
-    ensures { result ≡ is_doubtful bits }
-{
-    match bits {
-        -1..=1 => true,
-        _ => false,
-    }
-}
-
-// What the strict reader asks besides. 52: the block's mid/side bit differs from that of its group's first block. 53: a
-// doubtful width.
-fn check_doubts(reading: Reading, group: &[u8], r: &[u8]) -> Checked
-    requires { (16 ≤ length group.now) × (16 ≤ length r.now) }
-    ensures { result ≡ check_doubts reading group.now r.now }
-{
-    if let Reading::Ordinary = reading {
-        return Checked::Fine;
-    }
-    let first = BlockHeader::read(group);
-    let b = BlockHeader::read(r);
-    if differ(first.is_mid_side(), b.is_mid_side()) {
-        return Checked::No(Refusal::BlocksDisagree, NOWHERE);
-    }
-    if is_doubtful(b.bits) {
-        return Checked::No(Refusal::DoubtfulWidth, NOWHERE);
-    }
-    Checked::Fine
-}
-
-// Its bits word and values. 4: a bits word beyond 32. 1: no whole values.
-fn check_values(depth: u16, r: &[u8]) -> Checked
-    requires { (depth ≤ 32) × (16 ≤ length r.now) }
-    ensures { result ≡ check_values depth r.now }
-{
-    let b = BlockHeader::read(r);
-    let coding = coding(depth, b.bits);
+    let coding = coding(h.depth, b.bits);
     if let Coding::Beyond = coding {
         return Checked::No(Refusal::BitsWord(b.bits), NOWHERE);
     }
-    if r.len() < size_of(r, depth) {
+    if r.len() < size_of(r, h.depth) {
         return Checked::No(Refusal::TooShort, NOWHERE);
     }
     Checked::Fine
-}
-
-// All refusals of channel c's block, which r begins with, a part of its group.
-pub fn check_block(
-    reading: Reading,
-    h: Fields,
-    format: SampleFormat,
-    group: &[u8],
-    c: u16,
-    r: &[u8],
-) -> Checked
-    requires { (h.depth ≤ 32) × (length r.now ≤ length group.now) }
-    ensures { result ≡ check_block reading h format group.now c r.now }
-{
-    if let Checked::No(why, place) = check_flags(h, format, c, r) {
-        return Checked::No(why, place);
-    }
-    if let Checked::No(why, place) = check_doubts(reading, group, r) {
-        return Checked::No(why, place);
-    }
-    check_values(h.depth, r)
 }
 
 // Sample 0 is the base, sample k + 1 is sample k plus difference k, as they come from the run.

@@ -22,7 +22,6 @@ use Rattle.format.specs.declared.refusals.Refusal.TheVariants.{OutputTooShort, R
 use Rattle.format.specs.declared.refusals.Place.{Place}
 use Rattle.format.specs.declared.refusals.Checked.{Checked}
 use Rattle.format.specs.declared.refusals.Checked.TheVariants.{Fine, No}
-use Rattle.format.specs.declared.settings.Reading.TheVariants.{Ordinary}
 use Rattle.format.specs.declared.settings.SampleFormat.{SampleFormat}
 use Rattle.format.specs.declared.units.Frames.{Frames}
 use Rattle.format.specs.declared.units.Samples.{Samples}
@@ -71,7 +70,7 @@ module _ (s : List ℕ) (first count : Frames) (room : ℕ) (a : Checked) (says 
     module _ (within : first.0 + count.0 ≤ h.frames.0) where
       -- k what the groups say
       module _ (f : SampleFormat) (format : f ≡ format_of s h) (n : ℕ) (t : n ≡ touched first count)
-          (k : Checked) (checked : k ≡ in_order (λ i. in_group (first.0 / 512 + i) (check_group Ordinary h f (group_bytes s h (first.0 / 512 + i)))) n) where
+          (k : Checked) (checked : k ≡ in_order (λ i. in_group (first.0 / 512 + i) (check_group h f (group_bytes s h (first.0 / 512 + i)))) n) where
         all_say : k ≡ check_frames s first count
         unfolding check_frames check_step ◌then◌ refuse
         all_say = rw (← says, fine, ← reads, ← format, ← t, le-ltb h.frames.0 (first.0 + count.0) within) checked

@@ -3,7 +3,7 @@
 ghost use Rattle.std.specs.Prelude.{◌≡◌, ◌+◌, ◌^◌, ◌<◌};
 ghost use Rattle.format.specs.FewFrames.{touched, check_frames_into};
 
-use format::{Checked, Depth, Frames, NOWHERE, Reading, Refusal, Samples};
+use format::{Checked, Depth, Frames, NOWHERE, Refusal, Samples};
 
 // How many groups the frames touch.
 fn touched(first: Frames, count: Frames) -> u32
@@ -32,14 +32,7 @@ pub fn check_frames(file: &[u8], first: Frames, count: Frames, room: Samples) ->
     }
     let g = first.0 / Depth::SAMPLES_PER_BLOCK as u32;
     let format = opening::format_of(file, h);
-    if let Checked::No(r, place) = groups::check_groups(
-        Reading::Ordinary,
-        file,
-        h,
-        format,
-        g,
-        touched(first, count),
-    ) {
+    if let Checked::No(r, place) = groups::check_groups(file, h, format, g, touched(first, count)) {
         return Checked::No(r, place);
     }
     if room.0 < count.samples(h.channels).0 {

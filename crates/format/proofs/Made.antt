@@ -16,15 +16,14 @@ use Rattle.format.specs.Refusals.{number, refuse, ◌then◌, in_order}
 use Rattle.format.specs.Places.{located, outside, inside}
 use Rattle.format.specs.Fit.{misfit, check_fit}
 use Rattle.format.specs.Opening.{check_fields, check_offsets, bad_entry, check_table, check_first, format_of, check_open, header_of, open_of}
-use Rattle.format.specs.Strict.{is_doubtful, disagrees, check_doubts}
-use Rattle.format.specs.Decoding.{is_float, check_flags, check_values, check_block, check_group, coded, channels_of, woven, group_samples, check_decode_by, decoded_of, check_room, decode_by, decode_into_by, decode_into}
+use Rattle.format.specs.Decoding.{is_float, check_block, check_group, coded, channels_of, woven, group_samples, check_decode, decoded_of, check_room, decode_of, decode_into}
 use Rattle.format.specs.Walking.{check_step, step_samples, has_group, check_step_into, check_walk, step_of, next_of, step_into}
 use Rattle.format.specs.FewFrames.{touched, check_frames, check_frames_into, frame_at, frames_at, read_frames_of, read_frames_into}
 use Rattle.format.specs.SevenBits.{seven_in, seven, marked, seven_length, seven_value, check_seven, past}
 use Rattle.format.specs.Peaks.{picked, extreme, pair_bytes, summary_bytes, channel_peak, peak_at, summary_of, check_peaks, check_peaks_into, build_peaks_of, build_peaks_into, compare_peaks_of, pair_count, pair_number, from_pair, pair_of, check_two, check_pair, check_summary, check_peak, pairs_from, read_peak_of, read_peak_into, check_all_peaks, read_peaks_of, read_peaks_into}
 use Rattle.format.specs.Encoding.{channel, unwoven, padded, padded_channels, differences, least_from, least_width, first_value, block_bytes, encoded_block, blocks, mid, side, mid_side, equal_parity, parity, takes_mid, encoded_group, group_in, encoded_group_at, header_bytes, table_of, assembled, encoded_file, check_spec, check_encoder, check_samples, is_mid_side, check_stereo, check_size, check_encode, check_encode_into, encode_of, encode_into}
 use Rattle.format.specs.Reencoding.{new_values, values_for, base_for, reencoded_block, check_template_block, check_reencode_block, active_in, check_reencode_group, reencoded_group, check_same, check_bounds, check_rising, check_template, check_reencoder, check_reencode, check_reencode_into, reencoded_file, reencode_of, reencode_into}
-use Rattle.format.specs.Boundary.{samples_from, sample_bytes, is_mode, mode_of, check_mode, check_bytes, host_open, host_decode_by, host_decode_into_by, host_read_frames, host_read_frames_into, host_peaks, host_peak, host_peak_into, host_peaks_all, host_peaks_all_into, host_peaks_check, check_host_encode, host_encode, host_encode_into, check_host_reencode, host_reencode, host_reencode_into, host_decode_refusal, host_reencode_refusal}
+use Rattle.format.specs.Boundary.{samples_from, sample_bytes, is_mode, mode_of, check_mode, check_bytes, host_open, host_decode, host_decode_into, host_read_frames, host_read_frames_into, host_peaks, host_peak, host_peak_into, host_peaks_all, host_peaks_all_into, host_peaks_check, check_host_encode, host_encode, host_encode_into, check_host_reencode, host_reencode, host_reencode_into, host_decode_refusal, host_reencode_refusal}
 use Rattle.format.specs.declared.refusals.Place.{Place}
 use Rattle.format.specs.declared.refusals.Checked.{Checked}
 use Rattle.format.specs.declared.refusals.Checked.TheVariants.{Fine, No}
@@ -34,7 +33,7 @@ use Rattle.format.specs.declared.settings.StereoMode.TheVariants.{Auto}
 
 -- every definition of document 01, and of the requests of document 02, so that a table unfolds them all by one word
 unfoldable pub document_01 : Unit {0}
-unfolding tab joined from over last_or pairwise every first_not any_below same is_in num digits le num_at signature is_signature fields_of groups_of entry group_bytes codes_in run_of values packing coding width_of is_beyond rebuilt block_mark is_block base_of bits_of mid_bit float_bit coding_of size_of decoded samples_of from_block float_of pattern_of quieted settled left right left_right within depth_word is_depth depth_of frames_in check_framed refuse ◌then◌ in_order located outside inside misfit check_fit check_fields check_offsets bad_entry check_table check_first format_of check_open header_of open_of is_doubtful disagrees check_doubts is_float check_flags check_values check_block check_group coded channels_of woven active group_samples check_decode_by decoded_of check_room decode_by decode_into_by check_step step_samples has_group check_step_into check_walk step_of next_of step_into touched check_frames check_frames_into frame_at frames_at read_frames_of read_frames_into seven_in seven marked seven_length seven_value check_seven past picked extreme pair_bytes summary_bytes channel_peak peak_at summary_of check_peaks check_peaks_into build_peaks_of build_peaks_into compare_peaks_of pair_count pair_number from_pair pair_of check_two check_pair check_summary check_peak pairs_from read_peak_of read_peak_into check_all_peaks read_peaks_of read_peaks_into channel unwoven padded padded_channels differences least_from least_width first_value block_bytes encoded_block blocks mid side mid_side equal_parity parity takes_mid encoded_group group_in encoded_group_at header_bytes table_of assembled encoded_file check_spec check_encoder check_samples is_mid_side check_stereo check_size check_encode check_encode_into encode_of encode_into new_values values_for base_for reencoded_block check_template_block check_reencode_block active_in check_reencode_group reencoded_group check_same check_bounds check_rising check_template check_reencoder check_reencode check_reencode_into reencoded_file reencode_of reencode_into samples_from sample_bytes is_mode mode_of check_mode check_bytes host_open host_decode_by host_decode_into_by host_read_frames host_read_frames_into host_peaks host_peak host_peak_into host_peaks_all host_peaks_all_into host_peaks_check check_host_encode host_encode host_encode_into check_host_reencode host_reencode host_reencode_into host_decode_refusal host_reencode_refusal Ieee.is_nan Ieee.nan_bits Ieee.of_bits Ieee.to_bits Ieee.add Ieee.sub Ieee.sum Ieee.round Ieee.units Ieee.odd Ieee.span Ieee.climb Ieee.size Ieee.neg
+unfolding tab joined from over last_or pairwise every first_not any_below same is_in num digits le num_at signature is_signature fields_of groups_of entry group_bytes codes_in run_of values packing coding width_of is_beyond rebuilt block_mark is_block base_of bits_of mid_bit float_bit coding_of size_of decoded samples_of from_block float_of pattern_of quieted settled left right left_right within depth_word is_depth depth_of frames_in check_framed refuse ◌then◌ in_order located outside inside misfit check_fit check_fields check_offsets bad_entry check_table check_first format_of check_open header_of open_of is_float check_block check_group coded channels_of woven active group_samples check_decode decoded_of check_room decode_of decode_into check_step step_samples has_group check_step_into check_walk step_of next_of step_into touched check_frames check_frames_into frame_at frames_at read_frames_of read_frames_into seven_in seven marked seven_length seven_value check_seven past picked extreme pair_bytes summary_bytes channel_peak peak_at summary_of check_peaks check_peaks_into build_peaks_of build_peaks_into compare_peaks_of pair_count pair_number from_pair pair_of check_two check_pair check_summary check_peak pairs_from read_peak_of read_peak_into check_all_peaks read_peaks_of read_peaks_into channel unwoven padded padded_channels differences least_from least_width first_value block_bytes encoded_block blocks mid side mid_side equal_parity parity takes_mid encoded_group group_in encoded_group_at header_bytes table_of assembled encoded_file check_spec check_encoder check_samples is_mid_side check_stereo check_size check_encode check_encode_into encode_of encode_into new_values values_for base_for reencoded_block check_template_block check_reencode_block active_in check_reencode_group reencoded_group check_same check_bounds check_rising check_template check_reencoder check_reencode check_reencode_into reencoded_file reencode_of reencode_into samples_from sample_bytes is_mode mode_of check_mode check_bytes host_open host_decode host_decode_into host_read_frames host_read_frames_into host_peaks host_peak host_peak_into host_peaks_all host_peaks_all_into host_peaks_check check_host_encode host_encode host_encode_into check_host_reencode host_reencode host_reencode_into host_decode_refusal host_reencode_refusal Ieee.is_nan Ieee.nan_bits Ieee.of_bits Ieee.to_bits Ieee.add Ieee.sub Ieee.sum Ieee.round Ieee.units Ieee.odd Ieee.span Ieee.climb Ieee.size Ieee.neg
 document_01 = tt
 
 -- ---- the number that checks give, 0 where nothing is refused

@@ -18,7 +18,6 @@ use Rattle.format.specs.declared.refusals.Refusal.TheVariants.{SampleBytes, Temp
 use Rattle.format.specs.declared.refusals.Refusal.TheVariants.{TemplateOffsets, ShortGroup, TemplateBits}
 use Rattle.format.specs.declared.refusals.Refusal.TheVariants.{TemplateFlags, TemplateBytesLeft}
 use Rattle.format.specs.declared.refusals.Refusal.TheVariants.{OutputTooShort, RangePastEnd}
-use Rattle.format.specs.declared.refusals.Refusal.TheVariants.{BlocksDisagree, DoubtfulWidth}
 use Rattle.format.specs.declared.refusals.Refusal.TheVariants.{NumberCut, NumberLong, NumberTooLarge}
 use Rattle.format.specs.declared.refusals.Refusal.TheVariants.{BytesBehind, PeaksCrossed, FloatFile}
 use Rattle.format.specs.declared.refusals.Refusal.TheVariants.{PairPastEnd}
@@ -98,9 +97,6 @@ pub record Numbered : Type 0 where
   pub output_too_short : number OutputTooShort ≡ 50
   -- document 02, L1: first + count over the frames
   pub range_past_end : number RangePastEnd ≡ 51
-  -- L10: disagreeing blocks; doubtful width
-  pub blocks_disagree : number BlocksDisagree ≡ 52
-  pub doubtful_width : number DoubtfulWidth ≡ 53
   -- a number in groups of seven bits is cut short
   pub number_cut : number NumberCut ≡ 60
   -- its last byte is zero, after others
@@ -168,8 +164,6 @@ numbered =
       template_bytes_left = refl;
       output_too_short = refl;
       range_past_end = refl;
-      blocks_disagree = refl;
-      doubtful_width = refl;
       number_cut = refl;
       number_long = refl;
       number_too_large = refl;

@@ -23,14 +23,14 @@ use Rattle.format.proofs.Made.{document_01, pcm, laid, block, two, zeros, unmark
 pub record Placed : Type 0 where
   -- while a group is read
   pub groups : map inside (19 ∷ 22 ∷ 34 ∷ 35 ∷ 43 ∷ 46 ∷ []) ≡ replicate 6 TheGroup
-  pub blocks : map inside (1 ∷ 3 ∷ 4 ∷ 20 ∷ 21 ∷ 36 ∷ 44 ∷ 45 ∷ 52 ∷ 53 ∷ []) ≡ replicate 10 TheBlock
+  pub blocks : map inside (1 ∷ 3 ∷ 4 ∷ 20 ∷ 21 ∷ 36 ∷ 44 ∷ 45 ∷ []) ≡ replicate 8 TheBlock
   pub nothing : map inside (2 ∷ 10 ∷ 11 ∷ 12 ∷ 13 ∷ 14 ∷ 15 ∷ 16 ∷ 17 ∷ 18 ∷ []) ≡ replicate 10 NoGroup
   pub nothing_written : map inside (30 ∷ 31 ∷ 32 ∷ 33 ∷ 37 ∷ 38 ∷ 39 ∷ 40 ∷ 41 ∷ 42 ∷ 50 ∷ 51 ∷ []) ≡ replicate 12 NoGroup
   -- before and after
   pub groups_outside : map outside (19 ∷ 35 ∷ []) ≡ replicate 2 TheGroup
   pub nothing_outside : map outside (1 ∷ 2 ∷ 3 ∷ 4 ∷ 10 ∷ 11 ∷ 12 ∷ 13 ∷ 14 ∷ 15 ∷ 16 ∷ 17 ∷ 18 ∷ 20 ∷ 21 ∷ 22 ∷ []) ≡ replicate 16 NoGroup
-  pub written_outside : map outside (30 ∷ 31 ∷ 32 ∷ 33 ∷ 34 ∷ 36 ∷ 37 ∷ 38 ∷ 39 ∷ 40 ∷ 41 ∷ 42 ∷ 43 ∷ 44 ∷ 45 ∷ 46 ∷ 50 ∷ 51 ∷ 52 ∷ 53 ∷ [])
-      ≡ replicate 20 NoGroup
+  pub written_outside : map outside (30 ∷ 31 ∷ 32 ∷ 33 ∷ 34 ∷ 36 ∷ 37 ∷ 38 ∷ 39 ∷ 40 ∷ 41 ∷ 42 ∷ 43 ∷ 44 ∷ 45 ∷ 46 ∷ 50 ∷ 51 ∷ [])
+      ≡ replicate 18 NoGroup
   -- 19 names the first of two bad groups
   pub entries : open_of (laid 1 16 1025 [] (zeros ∷ take 79 zeros ∷ take 79 zeros ∷ []) []) ≡ refused_by EntryBounds (block 1 0)
   -- opening's 3, and decoding's; a group before that passed leaves no channel behind

@@ -6,7 +6,7 @@ use Rattle.format.specs.Units.{samples_in}
 use Rattle.format.specs.Refusals.{number, told, refuse, ◌then◌}
 use Rattle.format.specs.Answers.{answered, filled}
 use Rattle.format.specs.Opening.{open_of}
-use Rattle.format.specs.Decoding.{check_decode_by, check_decode, decoded_of, check_room, decode_by}
+use Rattle.format.specs.Decoding.{check_decode, decoded_of, check_room, decode_of}
 use Rattle.format.specs.FewFrames.{check_frames_into, frames_at, read_frames_of}
 use Rattle.format.specs.Peaks.{build_peaks_of, compare_peaks_of, pair_count, pair_number, pairs_from}
 use Rattle.format.specs.Peaks.{check_peak, read_peak_of, check_all_peaks, read_peaks_of}
@@ -19,8 +19,6 @@ use Rattle.format.specs.declared.refusals.Checked.{Checked}
 use Rattle.format.specs.declared.refusals.Checked.TheVariants.{Fine, No}
 use Rattle.format.specs.declared.units.Frames.{Frames}
 use Rattle.format.specs.declared.settings.PcmSpec.{PcmSpec}
-use Rattle.format.specs.declared.settings.Reading.{Reading}
-use Rattle.format.specs.declared.settings.Reading.TheVariants.{Ordinary}
 use Rattle.format.specs.declared.settings.StereoMode.{StereoMode}
 use Rattle.format.specs.declared.settings.StereoMode.TheVariants.{Auto, Direct, MidSide}
 use Rattle.format.specs.declared.answers.Outcome.{Outcome}
@@ -64,19 +62,13 @@ result Differs = 0
 unfoldable pub host_open : List ℕ → ℕ
 host_open file = result (open_of file).outcome
 
--- by either reader, as document 02's L10 has it; for samples coming out room is counted in bytes: as many samples as fit
-unfoldable pub host_decode_by : Reading → List ℕ → ℕ → ℕ
-host_decode_by reading file room = result (decode_by reading file (room / 4)).outcome
+-- for samples coming out room is counted in bytes: as many samples as fit
+unfoldable pub host_decode : List ℕ → ℕ → ℕ
+host_decode file room = result (decode_of file (room / 4)).outcome
 
-unfoldable pub host_decode_into_by : Reading → List ℕ → List ℕ → List ℕ
-host_decode_into_by reading file lent =
-    filled (check_decode_by reading file then check_room file (length lent / 4)) (sample_bytes (decoded_of file)) lent
-
-abbrev pub host_decode : List ℕ → ℕ → ℕ
-host_decode file room = host_decode_by Ordinary file room
-
-abbrev pub host_decode_into : List ℕ → List ℕ → List ℕ
-host_decode_into file lent = host_decode_into_by Ordinary file lent
+unfoldable pub host_decode_into : List ℕ → List ℕ → List ℕ
+host_decode_into file lent =
+    filled (check_decode file then check_room file (length lent / 4)) (sample_bytes (decoded_of file)) lent
 
 -- document 02, L1: room as for decoding
 unfoldable pub host_read_frames : List ℕ → Frames → Frames → ℕ → ℕ

@@ -10,13 +10,10 @@ use Rattle.format.specs.Refusals.{refuse, ◌then◌, in_order}
 use Rattle.format.specs.Places.{in_group, in_channel}
 use Rattle.format.specs.Answers.{answered, filled}
 use Rattle.format.specs.Opening.{format_of, check_open}
-use Rattle.format.specs.Strict.{check_doubts}
 use Rattle.format.specs.declared.refusals.Refusal.TheVariants.{TooShort, BlockSignature, BitsWord}
 use Rattle.format.specs.declared.refusals.Refusal.TheVariants.{FloatDiffers, MidSideChannels}
 use Rattle.format.specs.declared.refusals.Refusal.TheVariants.{BytesLeft, OutputTooShort}
 use Rattle.format.specs.declared.refusals.Checked.{Checked}
-use Rattle.format.specs.declared.settings.Reading.{Reading}
-use Rattle.format.specs.declared.settings.Reading.TheVariants.{Ordinary}
 use Rattle.format.specs.declared.settings.SampleFormat.{SampleFormat}
 use Rattle.format.specs.declared.settings.SampleFormat.TheVariants.{Pcm, Float}
 use Rattle.format.specs.declared.units.Samples.{Samples}
@@ -32,33 +29,21 @@ is_float Float = true
 
 -- ---- a group's bytes, in a file of that format
 
--- channel c's block as far as its flags: 1 is the header's, 21 on the first channel
-unfoldable pub check_flags : Fields → SampleFormat → ℕ → List ℕ → Checked
-check_flags fields format c block =
+-- channel c's block; 21 on the first channel; the first 1 is the header's, the second the values'
+unfoldable pub check_block : Fields → SampleFormat → ℕ → List ℕ → Checked
+check_block fields format c block =
     refuse (ltb (length block) 16) TooShort  -- 1
     then refuse (not (is_block block)) BlockSignature  -- 3
     then refuse (cond (is_float format) (not (float_bit block)) (float_bit block)) FloatDiffers  -- 20
     then refuse (eqb c 0 && (mid_bit block && not (eqb fields.channels 2))) MidSideChannels  -- 21
-
--- its bits word and its values, whose 1 this is
-unfoldable pub check_values : ℕ → List ℕ → Checked
-check_values depth block =
-    refuse (is_beyond (coding_of depth block)) (BitsWord (bits_of block))  -- 4
-    then refuse (ltb (length block) (size_of depth block)) TooShort  -- 1
-
--- and between them what this reader asks besides
-unfoldable pub check_block : Reading → Fields → SampleFormat → List ℕ → ℕ → List ℕ → Checked
-check_block reading fields format group c block =
-    check_flags fields format c block  -- 1, 3, 20, 21
-    then check_doubts reading group block  -- 52, 53
-    then check_values fields.depth block  -- 4, 1
+    then refuse (is_beyond (coding_of fields.depth block)) (BitsWord (bits_of block))  -- 4
+    then refuse (ltb (length block) (size_of fields.depth block)) TooShort  -- 1
 
 -- each channel in order; after the channels 22
-unfoldable pub check_group : Reading → Fields → SampleFormat → List ℕ → Checked
-check_group reading fields format group =
-    let block : ℕ → List ℕ = from_block fields.depth group in
-    let check : ℕ → Checked = λ c. in_channel c (check_block reading fields format group c (block c)) in
-    in_order check fields.channels  -- 1, 3, 20, 21, 52, 53, 4, 1
+unfoldable pub check_group : Fields → SampleFormat → List ℕ → Checked
+check_group fields format group =
+    let check : ℕ → Checked = λ c. in_channel c (check_block fields format c (from_block fields.depth group c)) in
+    in_order check fields.channels  -- 1, 3, 20, 21, 4, 1
     then refuse (not (eqb (length (from_block fields.depth group fields.channels)) 0)) BytesLeft  -- 22
 
 -- the channels as they are coded
@@ -85,17 +70,12 @@ group_samples fields format g group = woven (active fields.frames g) (channels_o
 -- ---- the whole file
 
 -- opens afresh, then each group in order
-unfoldable pub check_decode_by : Reading → List ℕ → Checked
-check_decode_by reading file =
+unfoldable pub check_decode : List ℕ → Checked
+check_decode file =
     let fields = fields_of file in
-    let bytes : ℕ → List ℕ = group_bytes file fields in
-    let check : ℕ → Checked = λ g. in_group g (check_group reading fields (format_of file fields) (bytes g)) in
+    let check : ℕ → Checked = λ g. in_group g (check_group fields (format_of file fields) (group_bytes file fields g)) in
     check_open file  -- 1, 2, 10 to 15, 1, 16 to 19, 3
-    then in_order check (groups_of fields.frames)  -- 1, 3, 20, 21, 52, 53, 4, 1, 22
-
--- document 01's reader is the ordinary one
-abbrev pub check_decode : List ℕ → Checked
-check_decode file = check_decode_by Ordinary file
+    then in_order check (groups_of fields.frames)  -- 1, 3, 20, 21, 4, 1, 22
 
 unfoldable pub decoded_of : List ℕ → List ℤ
 decoded_of file =
@@ -112,15 +92,8 @@ unfoldable pub check_room : List ℕ → ℕ → Checked
 check_room file room = refuse (ltb room (decoded_count file).0) OutputTooShort  -- 50
 
 -- the answer, and what the lent samples then hold
-unfoldable pub decode_by : Reading → List ℕ → ℕ → Answer
-decode_by reading file room = answered (check_decode_by reading file then check_room file room) (Read (decoded_count file))
+unfoldable pub decode_of : List ℕ → ℕ → Answer
+decode_of file room = answered (check_decode file then check_room file room) (Read (decoded_count file))
 
-unfoldable pub decode_into_by : Reading → List ℕ → List ℤ → List ℤ
-decode_into_by reading file lent =
-    filled (check_decode_by reading file then check_room file (length lent)) (decoded_of file) lent
-
-abbrev pub decode_of : List ℕ → ℕ → Answer
-decode_of file room = decode_by Ordinary file room
-
-abbrev pub decode_into : List ℕ → List ℤ → List ℤ
-decode_into file lent = decode_into_by Ordinary file lent
+unfoldable pub decode_into : List ℕ → List ℤ → List ℤ
+decode_into file lent = filled (check_decode file then check_room file (length lent)) (decoded_of file) lent

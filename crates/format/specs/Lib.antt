@@ -13,9 +13,8 @@ pub mod Refusals
 pub mod Places
 pub mod Answers
 pub mod Fit
--- "Order of checks", "Encoding", "Re-encoding"; of decoding also document 02's L10
+-- "Order of checks", "Encoding", "Re-encoding"
 pub mod Opening
-pub mod Strict
 pub mod Decoding
 pub mod Walking
 pub mod Encoding

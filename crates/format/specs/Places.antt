@@ -37,7 +37,7 @@ abbrev pub of_groups : List ℕ
 of_groups = 19 ∷ 22 ∷ 34 ∷ 35 ∷ 43 ∷ 46 ∷ []
 
 abbrev pub of_blocks : List ℕ
-of_blocks = 1 ∷ 3 ∷ 4 ∷ 20 ∷ 21 ∷ 36 ∷ 44 ∷ 45 ∷ 52 ∷ 53 ∷ []
+of_blocks = 1 ∷ 3 ∷ 4 ∷ 20 ∷ 21 ∷ 36 ∷ 44 ∷ 45 ∷ []
 
 unfoldable pub inside : ℕ → Named
 inside n = cond (is_in n of_groups) TheGroup (cond (is_in n of_blocks) TheBlock NoGroup)

@@ -2,21 +2,19 @@
 -- in lent memory. `lent` is what it is lent, `after` what that then holds.
 use Rattle.std.specs.Prelude.{ℕ, ◌≡◌, List, length, ℤ}
 use Rattle.format.specs.Opening.{open_of}
-use Rattle.format.specs.Decoding.{decode_by, decode_into_by}
+use Rattle.format.specs.Decoding.{decode_of, decode_into}
 use Rattle.format.specs.Walking.{step_of, next_of, step_into}
 use Rattle.format.specs.FewFrames.{read_frames_of, read_frames_into}
 use Rattle.format.specs.Peaks.{build_peaks_of, build_peaks_into, compare_peaks_of}
 use Rattle.format.specs.Peaks.{read_peak_of, read_peak_into, read_peaks_of, read_peaks_into}
 use Rattle.format.specs.Encoding.{encode_of, encode_into}
 use Rattle.format.specs.Reencoding.{reencode_of, reencode_into}
-use Rattle.format.specs.Boundary.{host_open, host_decode_by, host_decode_into_by, host_read_frames, host_read_frames_into}
+use Rattle.format.specs.Boundary.{host_open, host_decode, host_decode_into, host_read_frames, host_read_frames_into}
 use Rattle.format.specs.Boundary.{host_peaks, host_peak, host_peak_into, host_peaks_all, host_peaks_all_into}
 use Rattle.format.specs.Boundary.{host_peaks_check, host_encode, host_encode_into}
 use Rattle.format.specs.Boundary.{host_reencode, host_reencode_into, host_decode_refusal, host_reencode_refusal}
 use Rattle.format.specs.declared.units.Frames.{Frames}
 use Rattle.format.specs.declared.settings.PcmSpec.{PcmSpec}
-use Rattle.format.specs.declared.settings.Reading.{Reading}
-use Rattle.format.specs.declared.settings.Reading.TheVariants.{Ordinary}
 use Rattle.format.specs.declared.settings.StereoMode.{StereoMode}
 use Rattle.format.specs.declared.answers.Answer.{Answer}
 
@@ -26,13 +24,9 @@ use Rattle.format.specs.declared.answers.Answer.{Answer}
 abbrev pub Opens : List ℕ → Answer → Type 0
 Opens file answer = answer ≡ open_of file
 
--- decoding the file, by either reader; by the ordinary one
-abbrev pub DecodesBy : Reading → List ℕ → List ℤ → Answer → List ℤ → Type 0
-DecodesBy reading file lent answer after =
-    (answer ≡ decode_by reading file (length lent)) × (after ≡ decode_into_by reading file lent)
-
+-- decoding the file
 abbrev pub Decodes : List ℕ → List ℤ → Answer → List ℤ → Type 0
-Decodes file lent answer after = DecodesBy Ordinary file lent answer after
+Decodes file lent answer after = (answer ≡ decode_of file (length lent)) × (after ≡ decode_into file lent)
 
 -- group g of it alone
 abbrev pub Steps : List ℕ → ℕ → List ℤ → Answer → List ℤ → Type 0
@@ -81,12 +75,8 @@ Reencodes spec samples template lent answer after =
 abbrev pub HostOpens : List ℕ → ℕ → Type 0
 HostOpens file answer = answer ≡ host_open file
 
-abbrev pub HostDecodesBy : Reading → List ℕ → List ℕ → ℕ → List ℕ → Type 0
-HostDecodesBy reading file lent answer after =
-    (answer ≡ host_decode_by reading file (length lent)) × (after ≡ host_decode_into_by reading file lent)
-
 abbrev pub HostDecodes : List ℕ → List ℕ → ℕ → List ℕ → Type 0
-HostDecodes file lent answer after = HostDecodesBy Ordinary file lent answer after
+HostDecodes file lent answer after = (answer ≡ host_decode file (length lent)) × (after ≡ host_decode_into file lent)
 
 abbrev pub HostReadsFrames : List ℕ → Frames → Frames → List ℕ → ℕ → List ℕ → Type 0
 HostReadsFrames file first count lent answer after =

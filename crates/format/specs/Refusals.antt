@@ -13,7 +13,6 @@ use Rattle.format.specs.declared.refusals.Refusal.TheVariants.{SampleBytes, Temp
 use Rattle.format.specs.declared.refusals.Refusal.TheVariants.{TemplateOffsets, ShortGroup, TemplateBits}
 use Rattle.format.specs.declared.refusals.Refusal.TheVariants.{TemplateFlags, TemplateBytesLeft}
 use Rattle.format.specs.declared.refusals.Refusal.TheVariants.{OutputTooShort, RangePastEnd}
-use Rattle.format.specs.declared.refusals.Refusal.TheVariants.{BlocksDisagree, DoubtfulWidth}
 use Rattle.format.specs.declared.refusals.Refusal.TheVariants.{NumberCut, NumberLong, NumberTooLarge}
 use Rattle.format.specs.declared.refusals.Refusal.TheVariants.{BytesBehind, PeaksCrossed, FloatFile}
 use Rattle.format.specs.declared.refusals.Refusal.TheVariants.{PairPastEnd}
@@ -63,8 +62,6 @@ number TemplateFlags = 45
 number TemplateBytesLeft = 46
 number OutputTooShort = 50
 number RangePastEnd = 51  -- document 02, L1
-number BlocksDisagree = 52  -- L10
-number DoubtfulWidth = 53  -- L10
 number NumberCut = 60  -- L7, from here on
 number NumberLong = 61
 number NumberTooLarge = 62
@@ -111,8 +108,6 @@ told TemplateFlags = Nothing
 told TemplateBytesLeft = Nothing
 told OutputTooShort = Nothing
 told RangePastEnd = Nothing
-told BlocksDisagree = Nothing
-told DoubtfulWidth = Nothing
 told NumberCut = Nothing
 told NumberLong = Nothing
 told NumberTooLarge = Nothing

@@ -10,7 +10,6 @@ use Rattle.format.specs.Decoding.{check_group, group_samples}
 use Rattle.format.specs.declared.refusals.Refusal.TheVariants.{OutputTooShort}
 use Rattle.format.specs.declared.refusals.Checked.{Checked}
 use Rattle.format.specs.declared.refusals.Checked.TheVariants.{Fine}
-use Rattle.format.specs.declared.settings.Reading.TheVariants.{Ordinary}
 use Rattle.format.specs.declared.units.Samples.{Samples}
 use Rattle.format.specs.declared.answers.Outcome.{Outcome}
 use Rattle.format.specs.declared.answers.Outcome.TheVariants.{Opened, Read, Finished, Wrote, Refused}
@@ -23,7 +22,7 @@ use Rattle.format.specs.declared.answers.Answer.{Answer}
 unfoldable pub check_step : List ℕ → ℕ → Checked
 check_step file g =
     let fields = fields_of file in
-    in_group g (check_group Ordinary fields (format_of file fields) (group_bytes file fields g))
+    in_group g (check_group fields (format_of file fields) (group_bytes file fields g))
 
 unfoldable pub step_samples : List ℕ → ℕ → List ℤ
 step_samples file g =

@@ -12,6 +12,6 @@ pub use answers::{Answer, Fields, Header, Outcome, Peak};
 pub use packed::Coding;
 pub use places::Named;
 pub use refusals::{Checked, NOWHERE, Place, Refusal, Told};
-pub use settings::{PcmSpec, Reading, SampleFormat, StereoMode};
+pub use settings::{PcmSpec, SampleFormat, StereoMode};
 pub use signatures::{BLOCK_SIGNATURE, FILE_SIGNATURE, FILE_SIGNATURE_30, FILE_SIGNATURE_31};
 pub use units::{Depth, DepthWord, Framed, Frames, Samples};

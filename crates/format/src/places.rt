@@ -22,16 +22,7 @@ fn is_of_group(n: u32) -> bool
 fn is_of_block(n: u32) -> bool
     ensures { result ≡ is_in n of_blocks }
 {
-    (n == 1)
-        | (n == 3)
-        | (n == 4)
-        | (n == 20)
-        | (n == 21)
-        | (n == 36)
-        | (n == 44)
-        | (n == 45)
-        | (n == 52)
-        | (n == 53)
+    (n == 1) | (n == 3) | (n == 4) | (n == 20) | (n == 21) | (n == 36) | (n == 44) | (n == 45)
 }
 
 impl Named {

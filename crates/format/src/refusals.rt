@@ -42,8 +42,6 @@ pub enum Refusal {
     TemplateBytesLeft,
     OutputTooShort,
     RangePastEnd,
-    BlocksDisagree,
-    DoubtfulWidth,
     NumberCut,
     NumberLong,
     NumberTooLarge,
@@ -145,8 +143,6 @@ impl Refusal {
             Refusal::TemplateBytesLeft => 46, // bytes left in a template group
             Refusal::OutputTooShort => 50, // lent output too short
             Refusal::RangePastEnd => 51, // first frame + count over the file's frames
-            Refusal::BlocksDisagree => 52, // strict: mid/side bit differs from the group's first block
-            Refusal::DoubtfulWidth => 53, // strict: bits 0, 1 or −1
             Refusal::NumberCut => 60, // a number in groups of seven bits is cut short
             Refusal::NumberLong => 61, // its last byte is zero, after others
             Refusal::NumberTooLarge => 62, // it is over 32 bits

@@ -7,15 +7,6 @@ pub enum SampleFormat {
     Float,
 }
 
-// Which reader a file is put to.
-#[derive(Drop)]
-pub enum Reading {
-    // The one for the old shelves.
-    Ordinary,
-    // The one for deposits: it asks more of a block, and reads the same samples.
-    Strict,
-}
-
 // Which form the channels of newly encoded groups take.
 #[derive(Drop)]
 pub enum StereoMode {

@@ -13,7 +13,6 @@ use Rattle.format.specs.Packed.{is_beyond}
 use Rattle.format.specs.Blocks.{mid_bit, coding_of, size_of, samples_of, from_block}
 use Rattle.format.specs.MidSide.{left_right}
 use Rattle.format.specs.Decoding.{coded, channels_of}
-use Rattle.format.specs.declared.settings.Reading.TheVariants.{Ordinary}
 use Rattle.format.specs.declared.settings.SampleFormat.{SampleFormat}
 use Rattle.format.specs.declared.answers.Fields.{Fields}
 use Rattle.laws.proofs.Parts.{length_tab, get_d_tab}
@@ -46,7 +45,7 @@ module _ (h : Fields) (f : SampleFormat) (bs : List ℕ) (ok : Readable h f bs) 
   chans = coded h.depth h.channels bs
 
   known : (c : ℕ) → c < h.channels → is_beyond (coding_of h.depth (from_block h.depth bs c)) ≡ false
-  known c l = bits_known Ordinary h f bs c (from_block h.depth bs c) (block_fine Ordinary h f bs ok.fine c l)
+  known c l = bits_known h f c (from_block h.depth bs c) (block_fine h f bs ok.fine c l)
 
   channel_is : (c : ℕ) → c < h.channels → get_or chans c [] ≡ samples_of h.depth (from_block h.depth bs c)
   unfolding coded
@@ -65,8 +64,8 @@ module _ (h : Fields) (f : SampleFormat) (bs : List ℕ) (ok : Readable h f bs) 
 
     pub whole : Whole h.depth (part at bs)
     whole =
-        let e = block_fine Ordinary h f bs ok.fine c l in
-        subst (Whole h.depth) here (record { some = ok.least; most = ok.most; header = header_there Ordinary h f bs c _ e; known = bits_known Ordinary h f bs c _ e; run = run_there Ordinary h f bs c _ e })
+        let e = block_fine h f bs ok.fine c l in
+        subst (Whole h.depth) here (record { some = ok.least; most = ok.most; header = header_there h f c _ e; known = bits_known h f c _ e; run = run_there h f c _ e })
 
     pub begins_next : (n : ℕ) → n ≡ size_of h.depth (part at bs) → Begins h.depth bs (c + 1) (at + n)
     begins_next n = begins_more h.depth bs c at n b whole.run
@@ -87,7 +86,7 @@ module _ (h : Fields) (f : SampleFormat) (bs : List ℕ) (ok : Readable h f bs) 
   not_mid n = by (mid_bit bs) refl
     where
       by : (t : Bool) → mid_bit bs ≡ t → t ≡ false
-      by true e = absurd (n (mid_two Ordinary h f bs ok.fine ok.some e))
+      by true e = absurd (n (mid_two h f bs ok.fine ok.some e))
       by false e = refl
 
   pub all_channels : (h.channels ≡ 2 → ⊥) → (first skip n : ℕ) (s : List ℤ) → skip + n ≤ 512 → (first + n) * h.channels ≤ length s

@@ -2,13 +2,12 @@
 use Rattle.std.specs.Prelude.{ℕ, ◌≤◌, ◌≡◌, List}
 use Rattle.format.specs.Decoding.{check_group}
 use Rattle.format.specs.declared.refusals.Checked.TheVariants.{Fine}
-use Rattle.format.specs.declared.settings.Reading.TheVariants.{Ordinary}
 use Rattle.format.specs.declared.settings.SampleFormat.{SampleFormat}
 use Rattle.format.specs.declared.answers.Fields.{Fields}
 
--- bs are the bytes of a group, whose checks have passed: those of the ordinary reader, by whichever it is read
+-- bs are the bytes of a group, whose checks have passed
 pub record Readable (h : Fields) (f : SampleFormat) (bs : List ℕ) : Type 0 where
   pub some : 1 ≤ h.channels
   pub least : 1 ≤ h.depth
   pub most : h.depth ≤ 32
-  pub fine : check_group Ordinary h f bs ≡ Fine
+  pub fine : check_group h f bs ≡ Fine

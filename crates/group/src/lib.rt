@@ -4,19 +4,19 @@ ghost use Rattle.format.specs.Decoding.{check_group, channels_of};
 ghost use Rattle.lent_samples.specs.Lent.{lent_of, Put, PartFits, frames_put};
 ghost use Rattle.group.specs.Readable.{Readable};
 
-use format::{Checked, Fields, NOWHERE, Reading, Refusal, SampleFormat};
+use format::{Checked, Fields, NOWHERE, Refusal, SampleFormat};
 use lent_samples::{Container, Part};
 
 // The checks of a group, from its block headers alone: each channel in order, then 22: bytes are left over.
-pub fn check_group(reading: Reading, h: Fields, format: SampleFormat, bs: &[u8]) -> Checked
+pub fn check_group(h: Fields, format: SampleFormat, bs: &[u8]) -> Checked
     requires { h.depth ≤ 32 }
-    ensures { result ≡ check_group reading h format bs.now }
+    ensures { result ≡ check_group h format bs.now }
 {
     let channels = h.channels;
     let mut at: usize = 0;
     let mut c: u16 = 0;
     while c < channels {
-        if let Checked::No(r, place) = block::check_block(reading, h, format, bs, c, &bs[at..]) {
+        if let Checked::No(r, place) = block::check_block(h, format, c, &bs[at..]) {
             return Checked::No(r, place.at_channel(c));
         }
         at += block::size_of(&bs[at..], h.depth);

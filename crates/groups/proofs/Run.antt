@@ -14,7 +14,6 @@ use Rattle.format.specs.declared.refusals.Refusal.{Refusal}
 use Rattle.format.specs.declared.refusals.Place.{Place}
 use Rattle.format.specs.declared.refusals.Checked.{Checked}
 use Rattle.format.specs.declared.refusals.Checked.TheVariants.{Fine, No}
-use Rattle.format.specs.declared.settings.Reading.{Reading}
 use Rattle.format.specs.declared.settings.SampleFormat.{SampleFormat}
 use Rattle.format.specs.declared.answers.Fields.{Fields}
 use Rattle.laws.proofs.Places.{fine_located, no_located}
@@ -44,12 +43,12 @@ module _ (s : List ℕ) (h : Fields) (opens : check_open s ≡ Fine) (reads : h 
       run_within = part_within s h opens reads (groups_of h.frames) (first + k) a e refl group_there starts ends
 
       -- c is what the group's checks say
-      module _ (reading : Reading) (f : SampleFormat) (c : Checked) (says : c ≡ check_group reading h f (take (e - a) (drop a s))) where
+      module _ (f : SampleFormat) (c : Checked) (says : c ≡ check_group h f (take (e - a) (drop a s))) where
         abbrev check : ℕ → Checked
-        check i = in_group (first + i) (check_group reading h f (group_bytes s h (first + i)))
+        check i = in_group (first + i) (check_group h f (group_bytes s h (first + i)))
 
-        checked : (r : Checked) → c ≡ r → check_group reading h f (group_bytes s h (first + k)) ≡ r
-        checked r t = part_checked s h opens reads (groups_of h.frames) (first + k) a e refl group_there starts ends reading f c r says t
+        checked : (r : Checked) → c ≡ r → check_group h f (group_bytes s h (first + k)) ≡ r
+        checked r t = part_checked s h opens reads (groups_of h.frames) (first + k) a e refl group_there starts ends f c r says t
 
         pub run_stops : in_order check k ≡ Fine → (r : Refusal) (from at : Place) → c ≡ No r from → at ≡ at_group (first + k) from → No r at ≡ in_order check count
         run_stops fine r from at t p =

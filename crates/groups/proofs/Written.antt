@@ -14,7 +14,6 @@ use Rattle.format.specs.Opening.{format_of, check_open}
 use Rattle.format.specs.Decoding.{check_group, channels_of, frame_of}
 use Rattle.format.specs.FewFrames.{check_frames, frames_at}
 use Rattle.format.specs.declared.refusals.Checked.TheVariants.{Fine}
-use Rattle.format.specs.declared.settings.Reading.TheVariants.{Ordinary}
 use Rattle.format.specs.declared.settings.SampleFormat.{SampleFormat}
 use Rattle.format.specs.declared.units.Frames.{Frames}
 use Rattle.format.specs.declared.answers.Fields.{Fields}
@@ -71,7 +70,7 @@ module _ (s : List ℕ) (h : Fields) (f : SampleFormat) (first count : Frames) (
     pub end_there : at / 512 + 1 ≤ groups_of h.frames
     end_there = omega (arith, group_below)
 
-    passes : check_group Ordinary h f (group_bytes s h (at / 512)) ≡ Fine
+    passes : check_group h f (group_bytes s h (at / 512)) ≡ Fine
     passes = rw (says, reads) (frame_passes s first count fine at (omega arith, omega arith))
 
     module _ (a e : ℕ) (starts : a ≡ h.start + entry s h (at / 512)) (ends : e ≡ h.start + entry s h (at / 512 + 1)) where
@@ -92,7 +91,7 @@ module _ (s : List ℕ) (h : Fields) (f : SampleFormat) (first count : Frames) (
         some = channels_some s h opens reads;
         least = omega (arith, depth_8 s h opens reads);
         most = depth_32 s h opens reads;
-        fine = ap (check_group Ordinary h f) is_group ∙ passes;
+        fine = ap (check_group h f) is_group ∙ passes;
       }
 
       -- ---- what of that group is next

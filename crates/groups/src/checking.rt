@@ -7,28 +7,20 @@ ghost use Rattle.format.specs.Opening.{check_open};
 ghost use Rattle.format.specs.Decoding.{check_group};
 ghost use Rattle.format.specs.declared.refusals.Checked.TheVariants.{Fine};
 
-use format::{Checked, Fields, Reading, SampleFormat};
+use format::{Checked, Fields, SampleFormat};
 
 // Each of `count` groups in order, from the group `first` on.
-pub fn check_groups(
-    reading: Reading,
-    file: &[u8],
-    h: Fields,
-    format: SampleFormat,
-    first: u32,
-    count: u32,
-) -> Checked
+pub fn check_groups(file: &[u8], h: Fields, format: SampleFormat, first: u32, count: u32) -> Checked
     requires { (check_open file.now ≡ Fine) × (h ≡ fields_of file.now) × (first + count ≤ groups_of h.frames) }
     ensures { let file = file.entry.now in
-        let check = check_group reading h format in
-        result ≡ in_order (λ k. in_group (first + k) (check (group_bytes file h (first + k)))) count }
+        result ≡ in_order (λ k. in_group (first + k) (check_group h format (group_bytes file h (first + k)))) count }
 {
     let mut k: u32 = 0;
     while k < count {
         let g = first + k;
         let a = opening::offset_of(file, h, g);
         let e = opening::offset_of(file, h, g + 1);
-        if let Checked::No(r, place) = group::check_group(reading, h, format, &file[a..e]) {
+        if let Checked::No(r, place) = group::check_group(h, format, &file[a..e]) {
             return Checked::No(r, place.at_group(g));
         }
         k += 1;

@@ -15,13 +15,12 @@ use Rattle.format.specs.Units.{active}
 use Rattle.format.specs.Refusals.{in_order}
 use Rattle.format.specs.Places.{at_group}
 use Rattle.format.specs.Opening.{format_of, check_open}
-use Rattle.format.specs.Decoding.{check_group, channels_of, frame_of, woven, group_samples, check_decode_by, check_decode, decoded_of}
+use Rattle.format.specs.Decoding.{check_group, channels_of, frame_of, woven, group_samples, check_decode, decoded_of}
 use Rattle.format.specs.Walking.{check_step}
 use Rattle.format.specs.FewFrames.{range_end, IsAsked, group_of, touched, check_frames, frame_at, frames_at}
 use Rattle.format.specs.declared.refusals.Refusal.TheVariants.{RangePastEnd}
 use Rattle.format.specs.declared.refusals.Checked.{Checked}
 use Rattle.format.specs.declared.refusals.Checked.TheVariants.{Fine}
-use Rattle.format.specs.declared.settings.Reading.TheVariants.{Ordinary}
 use Rattle.format.specs.declared.units.Frames.{Frames}
 use Rattle.format.specs.declared.answers.Fields.{Fields}
 use Rattle.laws.proofs.Parts.{length_below, joined_add, joined_cong}
@@ -146,7 +145,7 @@ module _ (s : List ℕ) where
       sym (so_far ((h.frames.0 + 511) / 512) ∙ ap (λ (k : ℕ). frames_at s (frames 0) (frames k)) e)
 
   pub checks_all : check_frames s (frames 0) h.frames ≡ check_decode s
-  unfolding check_frames check_decode_by check_step
+  unfolding check_frames check_decode check_step
   checks_all =
       let l : 0 + h.frames.0 ≤ h.frames.0 = omega arith in
       refl then_same λ opens.
@@ -164,7 +163,7 @@ module _ (s : List ℕ) (first count : Frames) (fine : check_frames s first coun
   frames_within = ltb-false _ _ (passed _ _ (first_fine _ _ (others_fine (check_open s) _ fine)))
 
   -- the group of a frame that is asked for
-  pub frame_passes : (j : ℕ) → IsAsked first count j → (let h = fields_of s in check_group Ordinary h (format_of s h) (group_bytes s h (group_of j))) ≡ Fine
+  pub frame_passes : (j : ℕ) → IsAsked first count j → (let h = fields_of s in check_group h (format_of s h) (group_bytes s h (group_of j))) ≡ Fine
   unfolding check_frames check_step
   frame_passes j asked =
       let t = asked_touched first count j asked in

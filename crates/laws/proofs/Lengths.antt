@@ -17,11 +17,10 @@ use Rattle.format.specs.MidSide.{left_right}
 use Rattle.format.specs.Opening.{format_of, check_open}
 use Rattle.format.specs.Units.{active}
 use Rattle.format.specs.Places.{at_group}
-use Rattle.format.specs.Decoding.{check_group, coded, channels_of, woven, group_samples, check_decode_by, check_decode, decoded_of}
+use Rattle.format.specs.Decoding.{check_group, coded, channels_of, woven, group_samples, check_decode, decoded_of}
 use Rattle.format.specs.declared.packed.Coding.{Coding}
 use Rattle.format.specs.declared.packed.Coding.TheVariants.{Differences, Raw, Beyond}
 use Rattle.format.specs.declared.refusals.Checked.TheVariants.{Fine}
-use Rattle.format.specs.declared.settings.Reading.TheVariants.{Ordinary}
 use Rattle.format.specs.declared.settings.SampleFormat.{SampleFormat}
 use Rattle.format.specs.declared.units.Frames.{Frames}
 use Rattle.format.specs.declared.answers.Fields.{Fields}
@@ -58,14 +57,14 @@ length_two : (f : SampleFormat) (chans : List (List ℤ)) → length (left_right
 unfolding left_right
 length_two f chans = refl
 
-module _ (h : Fields) (f : SampleFormat) (bs : List ℕ) (some : 1 ≤ h.channels) (fine : check_group Ordinary h f bs ≡ Fine) where
+module _ (h : Fields) (f : SampleFormat) (bs : List ℕ) (some : 1 ≤ h.channels) (fine : check_group h f bs ≡ Fine) where
   pub channels_count : length (channels_of h f bs) ≡ h.channels
   unfolding channels_of coded
   channels_count = by (mid_bit bs) refl
     where
       by : (t : Bool) → mid_bit bs ≡ t
           → length (cond t (left_right f (tab h.channels (λ c. samples_of h.depth (from_block h.depth bs c)))) (tab h.channels (λ c. samples_of h.depth (from_block h.depth bs c)))) ≡ h.channels
-      by true e = length_two f (tab h.channels (λ c. samples_of h.depth (from_block h.depth bs c))) ∙ sym (mid_two Ordinary h f bs fine some e)
+      by true e = length_two f (tab h.channels (λ c. samples_of h.depth (from_block h.depth bs c))) ∙ sym (mid_two h f bs fine some e)
       by false e = length_tab h.channels (λ c. samples_of h.depth (from_block h.depth bs c))
 
   pub group_writes : (g : ℕ) → length (group_samples h f g bs) ≡ h.channels * active h.frames g
@@ -83,12 +82,12 @@ active_sum frames w P (suc n) h =
 
 module _ (s : List ℕ) (fine : check_decode s ≡ Fine) where
   pub decode_writes : length (decoded_of s) ≡ (fields_of s).channels * (fields_of s).frames.0
-  unfolding decoded_of groups_of check_decode_by
+  unfolding decoded_of groups_of check_decode
   decode_writes =
       let h = fields_of s in
       let e : min h.frames.0 (512 * ((h.frames.0 + 511) / 512)) ≡ h.frames.0 = omega arith in
       active_sum h.frames h.channels (λ g. group_samples h (format_of s h) g (group_bytes s h g)) ((h.frames.0 + 511) / 512)
-      (λ g l. group_writes h (format_of s h) (group_bytes s h g) (some_channels h (opened_fields s (first_fine _ _ fine))) (located_at (λ g. check_group Ordinary h (format_of s h) (group_bytes s h g)) at_group g ((h.frames.0 + 511) / 512) l (others_fine (check_open s) _ fine)) g)
+      (λ g l. group_writes h (format_of s h) (group_bytes s h g) (some_channels h (opened_fields s (first_fine _ _ fine))) (located_at (λ g. check_group h (format_of s h) (group_bytes s h g)) at_group g ((h.frames.0 + 511) / 512) l (others_fine (check_open s) _ fine)) g)
       ∙ ap (λ (x : ℕ). h.channels * x) e
 
   pub decode_count : (fields_of s).frames.0 * (fields_of s).channels ≡ length (decoded_of s)

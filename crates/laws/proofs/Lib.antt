@@ -36,8 +36,6 @@ pub mod Templates
 pub mod TemplateFiles
 -- where the checks refuse: those that name nothing, the first of those in order, and that a group's number is small
 pub mod Located
--- the strict reader beside the ordinary one
-pub mod Strict
 -- peaks: the extremes of samples, and summaries
 pub mod Extremes
 pub mod Summaries

@@ -17,8 +17,7 @@ use Rattle.format.specs.Blocks.{from_block}
 use Rattle.format.specs.Places.{at_group, at_channel, located, in_group}
 use Rattle.format.specs.Fit.{check_fit}
 use Rattle.format.specs.Opening.{check_fields, check_offsets, bad_entry, check_table, check_first, check_open, format_of}
-use Rattle.format.specs.Strict.{check_doubts}
-use Rattle.format.specs.Decoding.{check_flags, check_values, check_block, check_group, check_decode_by, check_decode, check_room}
+use Rattle.format.specs.Decoding.{check_block, check_group, check_decode, check_room}
 use Rattle.format.specs.Encoding.{group_in, check_spec, check_samples}
 use Rattle.format.specs.Reencoding.{check_template_block, check_reencode_block, check_reencode_group, check_same, check_bounds, check_rising, check_template}
 use Rattle.format.specs.Reencoding.{check_reencoder, check_reencode, check_reencode_into}
@@ -29,8 +28,6 @@ use Rattle.format.specs.declared.refusals.Place.{Place}
 use Rattle.format.specs.declared.refusals.Checked.{Checked}
 use Rattle.format.specs.declared.refusals.Checked.TheVariants.{Fine, No}
 use Rattle.format.specs.declared.settings.PcmSpec.{PcmSpec}
-use Rattle.format.specs.declared.settings.Reading.{Reading}
-use Rattle.format.specs.declared.settings.Reading.TheVariants.{Ordinary, Strict}
 use Rattle.format.specs.declared.settings.SampleFormat.{SampleFormat}
 use Rattle.format.specs.declared.answers.Fields.{Fields}
 use Rattle.laws.proofs.Tests.{never, and_left, and_right, either}
@@ -190,41 +187,12 @@ module _ (h : Fields) where
   unfolding check_first is_in
   first_says s = only (3 ∷ []) _ _ refl
 
-  flags_say : (f : SampleFormat) (c : ℕ) (r : List ℕ) → Says (Only (1 ∷ 3 ∷ 20 ∷ 21 ∷ [])) (check_flags h f c r)
-  unfolding check_flags is_in
-  flags_say f c r =
-      let one = only (1 ∷ 3 ∷ 20 ∷ 21 ∷ []) in
-      one _ _ refl and_says one _ _ refl and_says one _ _ refl and_says one _ _ refl
-
-values_say : (depth : ℕ) (r : List ℕ) → Says (Only (4 ∷ 1 ∷ [])) (check_values depth r)
-unfolding check_values is_in
-values_say depth r = let one = only (4 ∷ 1 ∷ []) in one _ _ refl and_says one _ _ refl
-
--- what a reader says besides
-abbrev pub doubt_numbers : Reading → List ℕ
-doubt_numbers Ordinary = []
-doubt_numbers Strict = 52 ∷ 53 ∷ []
-
-doubts_say : (reading : Reading) (group r : List ℕ) → Says (Only (doubt_numbers reading)) (check_doubts reading group r)
-unfolding check_doubts is_in
-doubts_say Ordinary group r = says_fine (Only [])
-doubts_say Strict group r = let one = only (52 ∷ 53 ∷ []) in one _ _ refl and_says one _ _ refl
-
-abbrev pub block_numbers : Reading → List ℕ
-block_numbers reading = 1 ∷ 3 ∷ 20 ∷ 21 ∷ 4 ∷ doubt_numbers reading
-
-doubts_among : (reading : Reading) → every (λ n. is_in n (block_numbers reading)) (doubt_numbers reading) ≡ true
-unfolding every is_in
-doubts_among Ordinary = refl
-doubts_among Strict = refl
-
-pub block_says_lem : (reading : Reading) (h : Fields) (f : SampleFormat) (group : List ℕ) (c : ℕ) (r : List ℕ)
-    → Says (Only (block_numbers reading)) (check_block reading h f group c r)
-unfolding check_block every is_in
-block_says_lem reading h f group c r =
-    only_among (1 ∷ 3 ∷ 20 ∷ 21 ∷ []) _ (flags_say h f c r) (block_numbers reading) refl
-    and_says only_among (doubt_numbers reading) _ (doubts_say reading group r) (block_numbers reading) (doubts_among reading)
-    and_says only_among (4 ∷ 1 ∷ []) _ (values_say h.depth r) (block_numbers reading) refl
+  pub block_says_lem : (f : SampleFormat) (c : ℕ) (r : List ℕ) → Says (Only (1 ∷ 3 ∷ 20 ∷ 21 ∷ 4 ∷ [])) (check_block h f c r)
+  unfolding check_block is_in
+  block_says_lem f c r =
+      let one = only (1 ∷ 3 ∷ 20 ∷ 21 ∷ 4 ∷ []) in
+      one _ _ refl and_says one _ _ refl and_says one _ _ refl
+      and_says one _ _ refl and_says one _ _ refl and_says one _ _ refl
 
 pub room_says : (s : List ℕ) (room : ℕ) → Says (Only (50 ∷ [])) (check_room s room)
 unfolding check_room is_in
@@ -310,8 +278,8 @@ module _ (P : Refusal → Place → Type 0) (s : List ℕ) (test : ℕ → Bool)
       and_says from (3 ∷ []) _ (first_says h s) refl
 
 -- ---- the numbers that reading says of an opening, of a group and of a file pass a test which each of these passes
-abbrev pub group_numbers : Reading → List ℕ
-group_numbers reading = 22 ∷ block_numbers reading
+abbrev pub group_numbers : List ℕ
+group_numbers = 22 ∷ 1 ∷ 3 ∷ 20 ∷ 21 ∷ 4 ∷ []
 
 abbrev pub Passes : (ℕ → Bool) → Refusal → Place → Type 0
 Passes test r at = test (number r) ≡ true
@@ -331,19 +299,18 @@ module _ (test : ℕ → Bool) where
       open_says (Passes test) s test (and_right (test 19) _ all) (λ r e. e)
       (each_passes (λ g. refuse (bad_entry s h g) EntryBounds) at_group (groups_of h.frames) (λ g. says_refuse (Passes test) _ EntryBounds (and_left (test 19) _ all)))
 
-  pub group_passes : (reading : Reading) → every test (group_numbers reading) ≡ true → (h : Fields) (f : SampleFormat) (group : List ℕ) → Says (Passes test) (check_group reading h f group)
+  pub group_passes : every test group_numbers ≡ true → (h : Fields) (f : SampleFormat) (group : List ℕ) → Says (Passes test) (check_group h f group)
   unfolding check_group every
-  group_passes reading all h f group =
-      each_passes (λ c. check_block reading h f group c (from_block h.depth group c)) at_channel h.channels
-      (λ c. only_says (block_numbers reading) _ (block_says_lem reading h f group c _) (Passes test) test (and_right (test 22) _ all) (λ r e. e))
+  group_passes all h f group =
+      each_passes (λ c. check_block h f c (from_block h.depth group c)) at_channel h.channels
+      (λ c. only_says (1 ∷ 3 ∷ 20 ∷ 21 ∷ 4 ∷ []) _ (block_says_lem h f c _) (Passes test) test (and_right (test 22) _ all) (λ r e. e))
       and_says says_refuse (Passes test) _ BytesLeft (and_left (test 22) _ all)
 
-  pub decode_passes : (reading : Reading) → every test (19 ∷ open_numbers) ≡ true → every test (group_numbers reading) ≡ true → (s : List ℕ) → Says (Passes test) (check_decode_by reading s)
-  unfolding check_decode_by
-  decode_passes reading all also s =
+  pub decode_passes : every test (19 ∷ open_numbers) ≡ true → every test group_numbers ≡ true → (s : List ℕ) → Says (Passes test) (check_decode s)
+  unfolding check_decode
+  decode_passes all also s =
       let h = fields_of s in
-      open_passes all s
-      and_says each_passes (λ g. check_group reading h (format_of s h) (group_bytes s h g)) at_group (groups_of h.frames) (λ g. group_passes reading also h (format_of s h) _)
+      open_passes all s and_says each_passes (λ g. check_group h (format_of s h) (group_bytes s h g)) at_group (groups_of h.frames) (λ g. group_passes also h (format_of s h) _)
 
 -- ---- numbers of a header: a file has fewer than 2 ^ 16 channels, and at most 2 ^ 23 groups
 module _ (s : List ℕ) (byte : Below 256 s) where
@@ -376,10 +343,10 @@ few_open s byte =
 
 pub decode_group_few : (s : List ℕ) (room : ℕ) → Below 256 s
     → (r : Refusal) (at : Place) → (check_decode s then check_room s room) ≡ No r at → at.group < 8388608
-unfolding check_decode_by
+unfolding check_decode
 decode_group_few s room byte =
     let h = fields_of s in
-    (few_open s byte and_says few_groups (λ g. check_group Ordinary h (format_of s h) (group_bytes s h g)) (groups_of h.frames) (groups_few s byte))
+    (few_open s byte and_says few_groups (λ g. check_group h (format_of s h) (group_bytes s h g)) (groups_of h.frames) (groups_few s byte))
     and_says few_nowhere _ (room_nowhere s room)
 
 pub reencode_group_few : (b : List ℕ) (p : PcmSpec) (t : List ℕ) (room : ℕ) → Below 256 t

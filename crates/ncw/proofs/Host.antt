@@ -10,21 +10,19 @@ use Rattle.format.specs.Header.{fields_of}
 use Rattle.format.specs.Refusals.{◌then◌}
 use Rattle.format.specs.Answers.{filled}
 use Rattle.format.specs.Opening.{open_of}
-use Rattle.format.specs.Decoding.{check_decode_by, check_decode, decoded_of, check_room, decode_by, decode_into_by}
+use Rattle.format.specs.Decoding.{check_decode, decoded_of, check_room, decode_of, decode_into}
 use Rattle.format.specs.FewFrames.{check_frames, check_frames_into, frames_at, read_frames_of, read_frames_into}
-use Rattle.format.specs.Boundary.{samples_from, sample_bytes, result, host_open, host_decode_by, host_decode_into_by, host_read_frames, host_read_frames_into, refusal_word, host_decode_refusal}
+use Rattle.format.specs.Boundary.{samples_from, sample_bytes, result, host_open, host_decode, host_decode_into, host_read_frames, host_read_frames_into, refusal_word, host_decode_refusal}
 use Rattle.format.specs.declared.refusals.Refusal.{Refusal}
 use Rattle.format.specs.declared.refusals.Refusal.TheVariants.{OutputTooShort}
 use Rattle.format.specs.declared.refusals.Place.{Place}
 use Rattle.format.specs.declared.refusals.Checked.{Checked}
 use Rattle.format.specs.declared.refusals.Checked.TheVariants.{Fine, No}
-use Rattle.format.specs.declared.settings.Reading.{Reading}
 use Rattle.format.specs.declared.units.Frames.{Frames}
 use Rattle.format.specs.declared.answers.Answer.{Answer}
 use Rattle.laws.proofs.Checks.{first_fine, has_room}
 use Rattle.laws.proofs.Located.{decode_group_few}
 use Rattle.laws.proofs.Lengths.{decode_count}
-use Rattle.laws.proofs.Strict.{ordinary_fine}
 use Rattle.laws.proofs.FewFrames.{frames_long}
 use Rattle.lent_samples.proofs.Laws.{length_lent}
 use Rattle.lent_samples.proofs.Outcome.{same_bytes, bytes_over}
@@ -33,10 +31,9 @@ pub told_open : (s : List ℕ) (a : Answer) (r : ℕ) → r ≡ result a.outcome
 unfolding host_open
 told_open s a r e p = e ∙ ap (λ (x : Answer). result x.outcome) p
 
-pub told_decode : (reading : Reading) (s b : List ℕ) (a : Answer) (r : ℕ) → r ≡ result a.outcome → a ≡ decode_by reading s (length (samples_from b))
-    → r ≡ host_decode_by reading s (length b)
-unfolding host_decode_by
-told_decode reading s b a r e p = e ∙ ap (λ (x : Answer). result x.outcome) (p ∙ ap (decode_by reading s) (length_lent b))
+pub told_decode : (s b : List ℕ) (a : Answer) (r : ℕ) → r ≡ result a.outcome → a ≡ decode_of s (length (samples_from b)) → r ≡ host_decode s (length b)
+unfolding host_decode
+told_decode s b a r e p = e ∙ ap (λ (x : Answer). result x.outcome) (p ∙ ap (decode_of s) (length_lent b))
 
 pub told_frames : (s b : List ℕ) (first count : Frames) (a : Answer) (r : ℕ) → r ≡ result a.outcome → a ≡ read_frames_of s first count (length (samples_from b))
     → r ≡ host_read_frames s first count (length b)
@@ -53,16 +50,16 @@ module _ (check : ℕ → Checked) (xs : List ℤ) (fits : (room : ℕ) → chec
       by Fine e t = bytes_over xs b d hb hd (fits (length b / 4) e) t q
       by (No r at) e t = sym (same_bytes b d hb hd (sym t) (sym q))
 
-decoded_room : (reading : Reading) (s : List ℕ) (room : ℕ) → (check_decode_by reading s then check_room s room) ≡ Fine → length (decoded_of s) ≤ room
+decoded_room : (s : List ℕ) (room : ℕ) → (check_decode s then check_room s room) ≡ Fine → length (decoded_of s) ≤ room
 unfolding check_room
-decoded_room reading s room fine =
-    let fits = has_room (check_decode_by reading s) room ((fields_of s).frames.0 * (fields_of s).channels) OutputTooShort fine in
-    omega (arith, decode_count s (ordinary_fine reading s (first_fine _ _ fine)))
+decoded_room s room fine =
+    let fits = has_room (check_decode s) room ((fields_of s).frames.0 * (fields_of s).channels) OutputTooShort fine in
+    omega (arith, decode_count s (first_fine _ _ fine))
 
-pub put_bytes : (reading : Reading) (s b d : List ℕ) → Below 256 b → Below 256 d → samples_from d ≡ decode_into_by reading s (samples_from b)
-    → drop (length d / 4 * 4) d ≡ drop (length b / 4 * 4) b → d ≡ host_decode_into_by reading s b
-unfolding decode_into_by host_decode_into_by
-put_bytes reading s b d = bytes_put (λ room. check_decode_by reading s then check_room s room) (decoded_of s) (decoded_room reading s) b d
+pub put_bytes :
+    (s b d : List ℕ) → Below 256 b → Below 256 d → samples_from d ≡ decode_into s (samples_from b) → drop (length d / 4 * 4) d ≡ drop (length b / 4 * 4) b → d ≡ host_decode_into s b
+unfolding decode_into host_decode_into
+put_bytes s b d = bytes_put (λ room. check_decode s then check_room s room) (decoded_of s) (decoded_room s) b d
 
 frames_room : (s : List ℕ) (first count : Frames) (room : ℕ) → check_frames_into s first count room ≡ Fine → length (frames_at s first count) ≤ room
 unfolding check_frames_into

@@ -15,13 +15,12 @@ use Rattle.format.specs.Units.{samples_in}
 use Rattle.format.specs.Refusals.{number, ◌then◌}
 use Rattle.format.specs.Answers.{answered}
 use Rattle.format.specs.Opening.{check_open, header_of, open_of}
-use Rattle.format.specs.Decoding.{check_decode_by, check_room, decode_by}
+use Rattle.format.specs.Decoding.{check_decode, check_room, decode_of}
 use Rattle.format.specs.FewFrames.{check_frames_into, read_frames_of}
 use Rattle.format.specs.Peaks.{summary_of, check_peaks, check_peaks_into, build_peaks_of, verdict, compare_peaks_of, pair_count, check_summary, check_peak, pairs_read, read_peak_of, check_all_peaks, read_peaks_of}
 use Rattle.format.specs.Encoding.{encoded_file, check_encode_into, encode_of}
 use Rattle.format.specs.Reencoding.{check_reencode_into, reencode_of}
 use Rattle.format.specs.Boundary.{samples_from, result}
-use Rattle.format.specs.declared.settings.Reading.{Reading}
 use Rattle.format.specs.declared.units.Frames.{Frames}
 use Rattle.format.specs.declared.units.Samples.{Samples}
 use Rattle.format.specs.declared.refusals.Refusal.{Refusal}
@@ -87,9 +86,9 @@ frames_few s count k a fits byte e n p = reads_few k (Read (samples_in count (fi
         let e : samples_in count (fields_of s).channels ≡ n = cc in
         omega (arith, counts_lt count.0 (fields_of s).channels fits (number_lt 8 2 s byte), ap (λ (m : Samples). m.0) e)
 
-pub decode_reads_few : (reading : Reading) (s : List ℕ) (room : ℕ) (a : Answer) → Below 256 s → a ≡ decode_by reading s room → (n : Samples) → a.outcome ≡ Read n → 4 * n.0 < 2 ^ 64
-unfolding decode_by fields_of
-decode_reads_few reading s room a byte e = frames_few s (fields_of s).frames (check_decode_by reading s then check_room s room) a (number_lt 16 4 s byte) byte e
+pub decode_reads_few : (s : List ℕ) (room : ℕ) (a : Answer) → Below 256 s → a ≡ decode_of s room → (n : Samples) → a.outcome ≡ Read n → 4 * n.0 < 2 ^ 64
+unfolding decode_of fields_of
+decode_reads_few s room a byte e = frames_few s (fields_of s).frames (check_decode s then check_room s room) a (number_lt 16 4 s byte) byte e
 
 pub frames_read_few : (s : List ℕ) (first count : Frames) (room : ℕ) (a : Answer) → count.0 < 4294967296 → Below 256 s → a ≡ read_frames_of s first count room
     → (n : Samples) → a.outcome ≡ Read n → 4 * n.0 < 2 ^ 64

@@ -3,18 +3,16 @@ mod words;
 
 ghost use Rattle.std.specs.Prelude.{◌≡◌, ◌*◌, ◌<◌, ◌^◌};
 ghost use Rattle.format.specs.declared.settings.PcmSpec.{PcmSpec};
-ghost use Rattle.format.specs.declared.settings.Reading.TheVariants.{Strict};
 ghost use Rattle.format.specs.declared.units.Frames.{Frames};
 ghost use Rattle.format.specs.declared.units.Samples.{Samples};
 ghost use Rattle.format.specs.declared.answers.Outcome.TheVariants.{Read};
 ghost use Rattle.format.specs.Boundary.{mode_of, result};
-ghost use Rattle.format.specs.Promises.{HostOpens, HostDecodesBy, HostDecodes, HostReadsFrames};
-ghost use Rattle.format.specs.Promises.{HostEncodes, HostReencodes};
+ghost use Rattle.format.specs.Promises.{HostOpens, HostDecodes, HostReadsFrames, HostEncodes, HostReencodes};
 ghost use Rattle.format.specs.Promises.{HostBuildsPeaks, HostReadsPeak, HostReadsPeaks, HostComparesPeaks};
 ghost use Rattle.format.specs.Promises.{HostDecodeRefuses, HostReencodeRefuses};
 
 use crate::words::refusal_word;
-use format::{Checked, Frames, NOWHERE, Outcome, PcmSpec, Reading, Refusal, Samples, StereoMode};
+use format::{Checked, Frames, NOWHERE, Outcome, PcmSpec, Refusal, Samples, StereoMode};
 use lent_samples::Container;
 
 // The length in bytes (for opening, what decoding would write), 1 for yes, 0 for no, or 2^63 plus the refusal number.
@@ -46,29 +44,14 @@ pub extern "C" fn ncw_open(file: &[u8]) -> u64
     result(outcome)
 }
 
-// Decodes a file into `samples`, by either reader.
-fn decode(reading: Reading, file: &[u8], samples: &mut [u8]) -> u64
-    ensures* { λ r. ⌜ HostDecodesBy reading file.now samples.old r samples.new ⌝ }
-{
-    let answer = reader::decode_lent(reading, Container::Bytes, file, &mut [], samples);
-    let outcome = answer.outcome;
-    result(outcome)
-}
-
-// By the ordinary one.
+// Decodes a file into `samples`.
 #[unsafe(no_mangle)]
 pub extern "C" fn ncw_decode(file: &[u8], samples: &mut [u8]) -> u64
     ensures* { λ r. ⌜ HostDecodes file.now samples.old r samples.new ⌝ }
 {
-    decode(Reading::Ordinary, file, samples)
-}
-
-// By the strict one, which deposits are put to.
-#[unsafe(no_mangle)]
-pub extern "C" fn ncw_decode_strict(file: &[u8], samples: &mut [u8]) -> u64
-    ensures* { λ r. ⌜ HostDecodesBy Strict file.now samples.old r samples.new ⌝ }
-{
-    decode(Reading::Strict, file, samples)
+    let answer = reader::decode_lent(Container::Bytes, file, &mut [], samples);
+    let outcome = answer.outcome;
+    result(outcome)
 }
 
 // Reads `count` frames of a file, from the frame `first` on, into `samples`.
@@ -204,7 +187,7 @@ pub extern "C" fn ncw_reencode(
 pub extern "C" fn ncw_decode_refusal(file: &[u8], room: u64) -> u64
     ensures* { λ r. ⌜ HostDecodeRefuses file.now room r ⌝ }
 {
-    let checked = reader::check_decode(Reading::Ordinary, file, Samples(room / 4));
+    let checked = reader::check_decode(file, Samples(room / 4));
     refusal_word(checked)
 }
 

@@ -10,7 +10,6 @@ use Rattle.format.specs.Opening.{check_fields, check_offsets, check_table, check
 use Rattle.format.specs.Decoding.{check_group}
 use Rattle.format.specs.declared.refusals.Checked.{Checked}
 use Rattle.format.specs.declared.refusals.Checked.TheVariants.{Fine}
-use Rattle.format.specs.declared.settings.Reading.{Reading}
 use Rattle.format.specs.declared.settings.SampleFormat.{SampleFormat}
 use Rattle.format.specs.declared.answers.Fields.{Fields}
 use Rattle.laws.proofs.Opened.{some_channels, depth_least, depth_most, data_past, data_within, end_within, entry_rises, opened_fields, opened_offsets, opened_table}
@@ -54,5 +53,5 @@ module _ (s : List ℕ) (h : Fields) (opens : check_open s ≡ Fine) (reads : h 
         ap₂ (λ (i j : ℕ). take i (drop j s)) n starts
 
     -- the group's checks, as they were made of that part
-    pub part_checked : (reading : Reading) (f : SampleFormat) (k r : Checked) → k ≡ check_group reading h f (take (e - a) (drop a s)) → k ≡ r → check_group reading h f (group_bytes s h g) ≡ r
-    part_checked reading f k r says t = ap (check_group reading h f) (sym part_is) ∙ sym says ∙ t
+    pub part_checked : (f : SampleFormat) (k r : Checked) → k ≡ check_group h f (take (e - a) (drop a s)) → k ≡ r → check_group h f (group_bytes s h g) ≡ r
+    part_checked f k r says t = ap (check_group h f) (sym part_is) ∙ sym says ∙ t

@@ -8,9 +8,8 @@ use Rattle.format.specs.Header.{fields_of, groups_of, entry, group_bytes}
 use Rattle.format.specs.Units.{active}
 use Rattle.format.specs.Places.{at_group}
 use Rattle.format.specs.Opening.{format_of, check_open}
-use Rattle.format.specs.Decoding.{check_group, check_decode_by, check_decode}
+use Rattle.format.specs.Decoding.{check_group, check_decode}
 use Rattle.format.specs.declared.refusals.Checked.TheVariants.{Fine}
-use Rattle.format.specs.declared.settings.Reading.TheVariants.{Ordinary}
 use Rattle.format.specs.declared.settings.SampleFormat.{SampleFormat}
 use Rattle.format.specs.declared.answers.Fields.{Fields}
 use Rattle.laws.proofs.Checks.{first_fine, others_fine}
@@ -30,7 +29,7 @@ abbrev pub pairs_at : List ℕ → Fields → SampleFormat → ℕ → List ℕ
 pairs_at s h f g = group_pairs h f (active h.frames g) (group_bytes s h g)
 
 pub decode_opens : (s : List ℕ) → check_decode s ≡ Fine → check_open s ≡ Fine
-unfolding check_decode_by
+unfolding check_decode
 decode_opens s fine = first_fine _ _ fine
 
 pub decode_fields : (s : List ℕ) → check_decode s ≡ Fine → 32 ≤ length s
@@ -40,11 +39,11 @@ module _ (s : List ℕ) (h : Fields) (f : SampleFormat) (fine : check_decode s �
   there : g < groups_of h.frames
   there = omega arith
 
-  passes : check_group Ordinary h f (group_bytes s h g) ≡ Fine
-  unfolding check_decode_by
+  passes : check_group h f (group_bytes s h g) ≡ Fine
+  unfolding check_decode
   passes =
       let l : g < groups_of (fields_of s).frames = rw reads at there in
-      rw (says, reads) (located_at (λ g. check_group Ordinary (fields_of s) (format_of s (fields_of s)) (group_bytes s (fields_of s) g)) at_group g (groups_of (fields_of s).frames) l (others_fine (check_open s) _ fine))
+      rw (says, reads) (located_at (λ g. check_group (fields_of s) (format_of s (fields_of s)) (group_bytes s (fields_of s) g)) at_group g (groups_of (fields_of s).frames) l (others_fine (check_open s) _ fine))
 
   pub some_frames : (n : ℕ) → n ≡ active h.frames g → 0 < n
   some_frames n act = omega (arith, some_active h.frames g there)
@@ -67,7 +66,7 @@ module _ (s : List ℕ) (h : Fields) (f : SampleFormat) (fine : check_decode s �
       some = channels_some s h (decode_opens s fine) reads;
       least = omega (arith, depth_8 s h (decode_opens s fine) reads);
       most = depth_32 s h (decode_opens s fine) reads;
-      fine = ap (check_group Ordinary h f) is_group ∙ passes;
+      fine = ap (check_group h f) is_group ∙ passes;
     }
 
     module _ (pass : Pass) (start : ℕ) (held out₀ : List ℕ) (at : ℕ) (out : List ℕ) (went : Went pass start (pairs_at s h f) held out₀ g at out) (n : ℕ) (act : n ≡ active h.frames g) where

@@ -13,7 +13,7 @@ use Rattle.format.specs.Header.{fields_of, groups_of}
 use Rattle.format.specs.Numbers.{Below}
 use Rattle.format.specs.Refusals.{nowhere, refuse, ◌then◌}
 use Rattle.format.specs.Opening.{format_of, check_open}
-use Rattle.format.specs.Decoding.{is_float, check_decode_by, check_decode}
+use Rattle.format.specs.Decoding.{is_float, check_decode}
 use Rattle.format.specs.Answers.{answered_by, refused_by}
 use Rattle.format.specs.Lists.{from, same}
 use Rattle.format.specs.Peaks.{check_peaks, summary_of, check_peaks_into, build_peaks_of, build_peaks_into, compare_peaks_of}
@@ -46,7 +46,7 @@ module _ (s : List ℕ) (k : Checked) (says : k ≡ check_decode s) where
 
   module _ (passes : k ≡ Fine) where
     pub decode_opens : check_open s ≡ Fine
-    unfolding check_decode_by
+    unfolding check_decode
     decode_opens = first_fine _ _ (sym says ∙ passes)
 
     pub decode_fields : 32 ≤ length s

@@ -2,13 +2,13 @@
 ghost use Rattle.std.specs.Prelude.{◌≡◌};
 ghost use Rattle.format.specs.Peaks.{check_peaks};
 
-use format::{Checked, NOWHERE, Reading, Refusal, SampleFormat};
+use format::{Checked, NOWHERE, Refusal, SampleFormat};
 
 // Decoding's checks, then 66: the file is float.
 pub fn check_peaks(file: &[u8]) -> Checked
     ensures { result ≡ check_peaks file.now }
 {
-    if let Checked::No(r, place) = reader::check_file(Reading::Ordinary, file) {
+    if let Checked::No(r, place) = reader::check_file(file) {
         return Checked::No(r, place);
     }
     let h = header::read_fields(file);

@@ -25,7 +25,6 @@ use Rattle.format.specs.declared.refusals.Refusal.TheVariants.{OutputTooShort}
 use Rattle.format.specs.declared.refusals.Place.{Place}
 use Rattle.format.specs.declared.refusals.Checked.{Checked}
 use Rattle.format.specs.declared.refusals.Checked.TheVariants.{Fine, No}
-use Rattle.format.specs.declared.settings.Reading.TheVariants.{Ordinary}
 use Rattle.format.specs.declared.settings.SampleFormat.{SampleFormat}
 use Rattle.format.specs.declared.units.Samples.{Samples}
 use Rattle.format.specs.declared.answers.Fields.{Fields}
@@ -73,10 +72,10 @@ module _ (s : List ℕ) (g room : ℕ) (a : Checked) (says : a ≡ check_open s)
     pub walk_within : e ≤ length s
     walk_within = part_within s h (sym says ∙ fine) reads groups g p e all below starts ends
 
-    module _ (f : SampleFormat) (format : f ≡ format_of s h) (k : Checked) (checked : k ≡ check_group Ordinary h f (take (e - p) (drop p s))) where
+    module _ (f : SampleFormat) (format : f ≡ format_of s h) (k : Checked) (checked : k ≡ check_group h f (take (e - p) (drop p s))) where
       checks : check_step s g ≡ in_group g k
       unfolding check_step
-      checks = rw (← reads, ← format) (ap (in_group g) (part_checked s h (sym says ∙ fine) reads groups g p e all below starts ends Ordinary f k k checked refl))
+      checks = rw (← reads, ← format) (ap (in_group g) (part_checked s h (sym says ∙ fine) reads groups g p e all below starts ends f k k checked refl))
 
       into : (c : Checked) → check_step_into s g room ≡ c → check_walk s g room ≡ c
       unfolding check_walk ◌then◌
@@ -153,7 +152,7 @@ module _ (s : List ℕ) (g c : ℕ) (k : Checked) (says : k ≡ check_walk s g c
             some = channels_some s h step_opens reads;
             least = omega (arith, depth_8 s h step_opens reads);
             most = depth_32 s h step_opens reads;
-            fine = ap (check_group Ordinary h f) is_group ∙ rw (format, reads) (located_fine (at_group g) _ (first_fine _ _ checks_fine));
+            fine = ap (check_group h f) is_group ∙ rw (format, reads) (located_fine (at_group g) _ (first_fine _ _ checks_fine));
           }
 
         module _ (n : Frames) (count : n.0 ≡ active h.frames g) where

@@ -2,7 +2,7 @@
 ghost use Rattle.std.specs.Prelude.{◌≡◌};
 ghost use Rattle.format.specs.Walking.{check_walk};
 
-use format::{Checked, NOWHERE, Reading, Refusal, Samples};
+use format::{Checked, NOWHERE, Refusal, Samples};
 
 // At group g, into so much room.
 pub fn check_walk(file: &[u8], g: u32, room: Samples) -> Checked
@@ -19,7 +19,7 @@ pub fn check_walk(file: &[u8], g: u32, room: Samples) -> Checked
     let format = opening::format_of(file, h);
     let a = opening::offset_of(file, h, g);
     let e = opening::offset_of(file, h, g + 1);
-    if let Checked::No(r, place) = group::check_group(Reading::Ordinary, h, format, &file[a..e]) {
+    if let Checked::No(r, place) = group::check_group(h, format, &file[a..e]) {
         return Checked::No(r, place.at_group(g));
     }
     let active = frames.active(g);

@@ -1,40 +1,51 @@
--- The definition's three stages; the flags have passed where a whole header is read again.
+-- The definition's checks in its order: a law for each way out, of what was read and passed before it.
 use borrow.Author.Rules.{rules}
 use Rattle.format.specs.Decoding.{check_block}
-use Rattle.laws.proofs.Chain.{stages}
-use Rattle.block.proofs.Checking.{header_16, group_16}
+use Rattle.laws.proofs.Chain.{chain, flags}
+use Rattle.block.proofs.Checking.{other_format, side_alone, bits_beyond, no_values, all_fine, known_by}
 use Rattle.block.proofs.check_block.Statement.{statement}
 use Rattle.block.proofs.check_block.Tie as tie
 
 returns : tie.Need-returns
 unfolding check_block
-returns c = search stages
-
-check-doubts-requires : tie.Need-check-doubts-requires
-check-doubts-requires c κs = (search (rules, group_16), search (rules, header_16))
+returns c = search chain
 
 returns-2 : tie.Need-returns-2
 unfolding check_block
-returns-2 c = search stages
-
-check-values-requires : tie.Need-check-values-requires
-check-values-requires c κs = (search rules, search (rules, header_16))
+returns-2 c = search (chain, flags)
 
 returns-3 : tie.Need-returns-3
-unfolding check_block
-returns-3 c = search stages
+returns-3 c = search (rules, other_format)
+
+returns-4 : tie.Need-returns-4
+returns-4 c = search (rules, side_alone)
+
+returns-5 : tie.Need-returns-5
+returns-5 c = search (rules, bits_beyond)
+
+returns-6 : tie.Need-returns-6
+returns-6 c = search (rules, no_values, known_by)
+
+returns-7 : tie.Need-returns-7
+returns-7 c = search (rules, all_fine, known_by)
 
 pub check-block-spec : {M : Type 1} → statement M
 check-block-spec =
     tie.close
     (tie.spec
+    returns
+    (λ c κs. search rules)
+    returns-2
+    (λ c κs. search rules)
+    (λ c κs. search rules)
+    (λ c κs. search rules)
+    returns-3
+    (λ c κs. search rules)
+    (λ c κs. search rules)
+    returns-4
     (λ c κs. search rules)
     (λ c. search rules)
-    returns
-    (λ c. search rules)
-    check-doubts-requires
-    (λ c. search rules)
-    returns-2
-    (λ c. search rules)
-    check-values-requires
-    returns-3)
+    returns-5
+    (λ c κs. search rules)
+    returns-6
+    returns-7)

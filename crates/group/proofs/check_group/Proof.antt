@@ -11,13 +11,13 @@ use Rattle.group.proofs.check_group.Statement.{statement}
 use Rattle.group.proofs.check_group.Tie as tie
 
 abbrev invariant-loop : tie.invariant-loop
-invariant-loop reading h format bs channels at₀ c₀ at c =
+invariant-loop h format bs channels at₀ c₀ at c =
     (channels ≡ h.channels)
     × (c ≤ channels)
-    × Passed h.depth (check_block reading h format bs) bs c at
+    × Passed h.depth (check_block h format) bs c at
 
 abbrev decreases-loop : tie.decreases-loop
-decreases-loop reading h format bs channels at₀ c₀ at c = channels - c
+decreases-loop h format bs channels at₀ c₀ at c = channels - c
 
 loop-holds : tie.Need-loop-init invariant-loop decreases-loop
 loop-holds c = (search rules, search rules, passed_none _ _ _)
@@ -30,14 +30,14 @@ returns c =
     stops d.before.before.before.loop.invariant.2 d.check-block.ensures BytesLeft b.before.r.given.1 (omega arith) c.at-channel.ensures
 
 size-of-requires : tie.Need-size-of-requires invariant-loop decreases-loop
-size-of-requires c κs = (header_there _ _ _ _ _ _ (sym c.before.before.before.check-block.ensures ∙ c.before.enum_told.given.1), search rules)
+size-of-requires c κs = (header_there _ _ _ _ (sym c.before.before.before.check-block.ensures ∙ c.before.enum_told.given.1), search rules)
 
 loop-again : tie.Need-loop-preserved invariant-loop decreases-loop
 loop-again c =
     let d = c.before.before.before.before in
     let e = c.before.before.enum_told.given.1 in
     let s = d.check-block.ensures in
-    (search rules, search rules, more d.before.before.before.loop.invariant.2 s e (run_there _ _ _ _ _ _ (sym s ∙ e)) c.type_size.ensures.0)
+    (search rules, search rules, more d.before.before.before.loop.invariant.2 s e (run_there _ _ _ _ (sym s ∙ e)) c.type_size.ensures.0)
 
 returns-2 : tie.Need-returns-2 invariant-loop decreases-loop
 unfolding check_group

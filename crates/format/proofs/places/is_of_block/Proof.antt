@@ -6,22 +6,20 @@ use Rattle.format.specs.Lists.{is_in}
 use Rattle.format.proofs.places.is_of_block.Statement.{statement}
 use Rattle.format.proofs.places.is_of_block.Tie as tie
 
-ten : (a b c d e f g h i j : Bool) → (((((((((a || b) || c) || d) || e) || f) || g) || h) || i) || j) ≡ (a || (b || (c || (d || (e || (f || (g || (h || (i || (j || false))))))))))
-ten true b c d e f g h i j = refl
-ten false true c d e f g h i j = refl
-ten false false true d e f g h i j = refl
-ten false false false true e f g h i j = refl
-ten false false false false true f g h i j = refl
-ten false false false false false true g h i j = refl
-ten false false false false false false true h i j = refl
-ten false false false false false false false true i j = refl
-ten false false false false false false false false true j = refl
-ten false false false false false false false false false true = refl
-ten false false false false false false false false false false = refl
+eight : (a b c d e f g h : Bool) → (((((((a || b) || c) || d) || e) || f) || g) || h) ≡ (a || (b || (c || (d || (e || (f || (g || (h || false))))))))
+eight true b c d e f g h = refl
+eight false true c d e f g h = refl
+eight false false true d e f g h = refl
+eight false false false true e f g h = refl
+eight false false false false true f g h = refl
+eight false false false false false true g h = refl
+eight false false false false false false true h = refl
+eight false false false false false false false true = refl
+eight false false false false false false false false = refl
 
 returns : tie.Need-returns
 unfolding is_in
-returns c = let n = c.args.n in ten (eqb n 1) (eqb n 3) (eqb n 4) (eqb n 20) (eqb n 21) (eqb n 36) (eqb n 44) (eqb n 45) (eqb n 52) (eqb n 53)
+returns c = let n = c.args.n in eight (eqb n 1) (eqb n 3) (eqb n 4) (eqb n 20) (eqb n 21) (eqb n 36) (eqb n 44) (eqb n 45)
 
 pub is-of-block-spec : {M : Type 1} → statement M
 is-of-block-spec = tie.close (tie.spec returns)

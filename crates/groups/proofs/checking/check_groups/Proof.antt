@@ -15,12 +15,12 @@ use Rattle.groups.proofs.checking.check_groups.Statement.{statement}
 use Rattle.groups.proofs.checking.check_groups.Tie as tie
 
 abbrev invariant-loop : tie.invariant-loop
-invariant-loop reading file h format first count k₀ k =
+invariant-loop file h format first count k₀ k =
     (k ≤ count)
-    × (in_order (λ k. in_group (first + k) (check_group reading h format (group_bytes file h (first + k)))) k ≡ Fine)
+    × (in_order (λ k. in_group (first + k) (check_group h format (group_bytes file h (first + k)))) k ≡ Fine)
 
 abbrev decreases-loop : tie.decreases-loop
-decreases-loop reading file h format first count k₀ k = count - k
+decreases-loop file h format first count k₀ k = count - k
 
 loop-holds : tie.Need-loop-init invariant-loop decreases-loop
 loop-holds c = (search rules, order_none _)
@@ -64,7 +64,7 @@ returns c =
     let b = l.before.before.before in
     let x = r.r.given.0 in
     run_stops _ _ b.requires.0 b.requires.1 _ _ b.requires.2 _ l.loop-test.true _ _ o.before.offset-of.ensures o.offset-of2.ensures
-    _ _ _ k.check-group.ensures l.before.loop.invariant.1 x.0 x.1.0 _ r.r.given.1 c.at-group.ensures
+    _ _ k.check-group.ensures l.before.loop.invariant.1 x.0 x.1.0 _ r.r.given.1 c.at-group.ensures
 
 loop-again : tie.Need-loop-preserved invariant-loop decreases-loop
 loop-again c =
@@ -74,7 +74,7 @@ loop-again c =
     let b = l.before.before.before in
     let more =
     run_more _ _ b.requires.0 b.requires.1 _ _ b.requires.2 _ l.loop-test.true _ _ o.before.offset-of.ensures o.offset-of2.ensures
-    _ _ _ k.check-group.ensures l.before.loop.invariant.1 c.enum_told.given.1 in
+    _ _ k.check-group.ensures l.before.loop.invariant.1 c.enum_told.given.1 in
     (search rules, more)
 
 returns-2 : tie.Need-returns-2 invariant-loop decreases-loop

@@ -11,7 +11,7 @@ use denote.Enum.Declared.{tag_of}
 use borrow.Author.Rules.{rules}
 use Rattle.format.specs.Refusals.{told}
 use Rattle.format.specs.declared.refusals.Refusal.{Refusal}
-use Rattle.format.specs.declared.refusals.Refusal.TheVariants.{TooShort, FileSignature, BlockSignature, BitsWord, ZeroChannels, DepthUnknown, ZeroRate, TableOffset, DataOffset, TableLength, LastEntry, DataWithoutFrames, FirstEntry, EntryBounds, FloatDiffers, MidSideChannels, BytesLeft, WriterSpec, IncompleteFrame, ValueOutside, TooManyFrames, NotStereo, ParityDiffers, WidthTooSmall, DataTooLarge, UnknownMode, SampleBytes, TemplateDiffers, TemplateBounds, TemplateOffsets, ShortGroup, TemplateBits, TemplateFlags, TemplateBytesLeft, OutputTooShort, RangePastEnd, BlocksDisagree, DoubtfulWidth, NumberCut, NumberLong, NumberTooLarge, BytesBehind, PeaksCrossed, FloatFile, PairPastEnd}
+use Rattle.format.specs.declared.refusals.Refusal.TheVariants.{TooShort, FileSignature, BlockSignature, BitsWord, ZeroChannels, DepthUnknown, ZeroRate, TableOffset, DataOffset, TableLength, LastEntry, DataWithoutFrames, FirstEntry, EntryBounds, FloatDiffers, MidSideChannels, BytesLeft, WriterSpec, IncompleteFrame, ValueOutside, TooManyFrames, NotStereo, ParityDiffers, WidthTooSmall, DataTooLarge, UnknownMode, SampleBytes, TemplateDiffers, TemplateBounds, TemplateOffsets, ShortGroup, TemplateBits, TemplateFlags, TemplateBytesLeft, OutputTooShort, RangePastEnd, NumberCut, NumberLong, NumberTooLarge, BytesBehind, PeaksCrossed, FloatFile, PairPastEnd}
 use Rattle.format.specs.declared.refusals.Told.TheVariants.{Nothing, Bits, Misfit}
 use Rattle.format.specs.contracts.refusals.Refusal.{the_type}
 use Rattle.format.proofs.refusals.Refusal.told.Statement.{statement}
@@ -25,7 +25,7 @@ misfit_told_lem r k e = sym (ap told e)
 
 -- the tags of all refusals but these two
 abbrev others : List ℕ
-others = 0 ∷ 1 ∷ 2 ∷ 4 ∷ 5 ∷ 6 ∷ 7 ∷ 8 ∷ 9 ∷ 10 ∷ 11 ∷ 12 ∷ 13 ∷ 14 ∷ 15 ∷ 16 ∷ 17 ∷ 18 ∷ 19 ∷ 20 ∷ 21 ∷ 22 ∷ 24 ∷ 25 ∷ 26 ∷ 27 ∷ 28 ∷ 29 ∷ 30 ∷ 31 ∷ 32 ∷ 33 ∷ 34 ∷ 35 ∷ 36 ∷ 37 ∷ 38 ∷ 39 ∷ 40 ∷ 41 ∷ 42 ∷ 43 ∷ 44 ∷ []
+others = 0 ∷ 1 ∷ 2 ∷ 4 ∷ 5 ∷ 6 ∷ 7 ∷ 8 ∷ 9 ∷ 10 ∷ 11 ∷ 12 ∷ 13 ∷ 14 ∷ 15 ∷ 16 ∷ 17 ∷ 18 ∷ 19 ∷ 20 ∷ 21 ∷ 22 ∷ 24 ∷ 25 ∷ 26 ∷ 27 ∷ 28 ∷ 29 ∷ 30 ∷ 31 ∷ 32 ∷ 33 ∷ 34 ∷ 35 ∷ 36 ∷ 37 ∷ 38 ∷ 39 ∷ 40 ∷ 41 ∷ 42 ∷ []
 
 nothing_told : (r : Refusal) → OneOf others (tag_of the_type r) → Nothing ≡ told r
 nothing_told TooShort h = refl
@@ -64,8 +64,6 @@ nothing_told TemplateFlags h = refl
 nothing_told TemplateBytesLeft h = refl
 nothing_told OutputTooShort h = refl
 nothing_told RangePastEnd h = refl
-nothing_told BlocksDisagree h = refl
-nothing_told DoubtfulWidth h = refl
 nothing_told NumberCut h = refl
 nothing_told NumberLong h = refl
 nothing_told NumberTooLarge h = refl
