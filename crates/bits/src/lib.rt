@@ -1,4 +1,6 @@
 // Packed values, least significant bit first: bits.rs of the Rust.
+#![tactic(auto)]
+
 ghost use Rattle.std.specs.Prelude.{◌≡◌, ◌+◌, ◌*◌, ◌%◌, ◌^◌, ◌<◌, ◌≤◌, min, length, pos, slice_index_or};
 ghost use Rattle.format.specs.Numbers.{value};
 ghost use Rattle.format.specs.Packed.{values};
@@ -8,20 +10,20 @@ use format::Depth;
 use le_bytes::read_u64_le;
 
 // A place in a packed run: the number of the bit that is read next.
-#[derive(Drop)]
+#[derive(Clone, Copy)]
 pub struct Cursor {
     bit: usize,
 }
 
 // A value, and the cursor after it.
-#[derive(Drop)]
+#[derive(Clone, Copy)]
 struct Next {
     value: i32,
     cursor: Cursor,
 }
 
 // A value and the one after it, and the cursor after both.
-#[derive(Drop)]
+#[derive(Clone, Copy)]
 pub struct Pair {
     pub first: i32,
     pub second: i32,

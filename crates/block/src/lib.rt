@@ -1,4 +1,6 @@
 // One channel's block: its header, its checks, its samples: block.rs of the Rust.
+#![tactic(auto)]
+
 ghost use Rattle.std.specs.Prelude.{◌≡◌, cond, not, ◌&&◌, ◌+◌, ◌*◌, ◌/◌, ◌%◌, ◌<◌, ◌≤◌, eqb, length};
 ghost use Rattle.format.specs.Packed.{coding, width_of, values, rebuilt};
 ghost use Rattle.format.specs.Blocks.{is_block, size_of, samples_of};
@@ -12,7 +14,7 @@ use le_bytes::{read_u16_le, read_u32_le};
 
 // The numbers of a block's 16-byte header. `base` is the block's first sample where its values are differences;
 // `bits` says how they are coded (`coding`); of `flags` bit 0 is mid/side and bit 1 float.
-#[derive(Drop)]
+#[derive(Clone, Copy)]
 pub struct BlockHeader {
     pub base: i32,
     pub bits: i16,

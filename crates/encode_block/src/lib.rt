@@ -1,4 +1,6 @@
 // A block that is encoded: the width that 512 samples take, its length, and its bytes: channel_block of writer.rs.
+#![tactic(auto)]
+
 ghost use Rattle.std.specs.Prelude.{◌≡◌, true, ◌++◌, ℕ, ◌+◌, ◌*◌, ◌≤◌, length};
 ghost use Rattle.format.specs.Lists.{over, every};
 ghost use Rattle.format.specs.Numbers.{holds};

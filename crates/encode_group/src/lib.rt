@@ -1,4 +1,6 @@
 // A group that is encoded: mid/side where the mode takes it, its length, and its blocks, each in its own part.
+#![tactic(auto)]
+
 ghost use Rattle.std.specs.Prelude.{◌≡◌, true, [], ℕ, ◌+◌, ◌*◌, ◌<◌, ◌≤◌, length, get_or};
 ghost use Rattle.format.specs.Lists.{over, every};
 ghost use Rattle.format.specs.Numbers.{holds};
@@ -12,7 +14,7 @@ use format::{PcmSpec, StereoMode};
 use lent_samples::Container;
 
 // A group's length in both forms.
-#[derive(Drop)]
+#[derive(Clone, Copy)]
 pub struct Sizes {
     pub direct: usize,
     pub mid_side: usize,
@@ -132,7 +134,7 @@ fn encode_channels(
     p: PcmSpec,
 ) -> usize
     requires writable { Writable p Direct first n (lent_of which words.now bytes.now) }
-    requires chans_in_bounds { let lent = lent_of which words.now bytes.now in
+    requires room { let lent = lent_of which words.now bytes.now in
         let chans = padded_channels p.channels (frames_from p.channels first n lent) in
         length (blocks p.bits_per_sample 0 chans) ≤ length out.old }
     ensures { let lent = lent_of which words.now bytes.now in
@@ -161,7 +163,7 @@ pub fn encode_group(
     mode: StereoMode,
 ) -> usize
     requires writable { Writable p mode first n (lent_of which words.now bytes.now) }
-    requires lent_in_bounds { let lent = lent_of which words.now bytes.now in
+    requires room { let lent = lent_of which words.now bytes.now in
         length (encoded_group p mode (frames_from p.channels first n lent)) ≤ length out.old }
     ensures { let lent = lent_of which words.now bytes.now in
         let group = encoded_group p mode (frames_from p.channels first n lent) in

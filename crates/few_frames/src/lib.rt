@@ -1,5 +1,7 @@
 // Document 02, L1: a few frames of a file, by the first one's number. Every refusal is found first; then samples are
 // put.
+#![tactic(auto)]
+
 mod checking;
 
 ghost use Rattle.std.specs.Prelude.{◌≡◌};

@@ -3,7 +3,7 @@ use Prim.Native.Nat.{ℕ}
 use mathlib.Core.Path.{◌≡◌, refl}
 use mathlib.Core.List.{List, [], ◌∷◌, ◌++◌}
 use lib.ListN.{replicate}
-use lib.IntN.{ℤ, pos, negsuc}
+use lib.IntN.{pos, negsuc}
 use Rattle.format.specs.SevenBits.{seven, seven_value, check_seven, past, folded, unfolded}
 use Rattle.format.specs.Peaks.{summary_of, build_peaks_of, build_peaks_into, compare_peaks_of, check_summary, check_peak, read_peak_of, read_peak_into, read_peaks_of, read_peaks_into}
 use Rattle.format.specs.Refusals.{nowhere}

@@ -48,23 +48,23 @@ unfoldable pub check_bytes : List ℕ → Checked
 check_bytes bytes = refuse (not (eqb (length bytes % 4) 0)) SampleBytes  -- 39
 
 -- the length in bytes (for opening, what decoding would write), or 2 ^ 63 plus the refusal number
-abbrev pub result : Outcome → ℕ
-result (Opened header) = 4 * (samples_in header.frames header.channels).0
-result (Read count) = 4 * count.0
-result (Wrote size) = size
-result (Refused refusal) = 2 ^ 63 + number refusal
-result Finished = 0
-result Matches = 1  -- document 02, L7: yes
-result Differs = 0
+abbrev pub result_of : Outcome → ℕ
+result_of (Opened header) = 4 * (samples_in header.frames header.channels).0
+result_of (Read count) = 4 * count.0
+result_of (Wrote size) = size
+result_of (Refused refusal) = 2 ^ 63 + number refusal
+result_of Finished = 0
+result_of Matches = 1  -- document 02, L7: yes
+result_of Differs = 0
 
 -- ---- opening, decoding
 
 unfoldable pub host_open : List ℕ → ℕ
-host_open file = result (open_of file).outcome
+host_open file = result_of (open_of file).outcome
 
 -- for samples coming out room is counted in bytes: as many samples as fit
 unfoldable pub host_decode : List ℕ → ℕ → ℕ
-host_decode file room = result (decode_of file (room / 4)).outcome
+host_decode file room = result_of (decode_of file (room / 4)).outcome
 
 unfoldable pub host_decode_into : List ℕ → List ℕ → List ℕ
 host_decode_into file lent =
@@ -72,7 +72,7 @@ host_decode_into file lent =
 
 -- document 02, L1: room as for decoding
 unfoldable pub host_read_frames : List ℕ → Frames → Frames → ℕ → ℕ
-host_read_frames file first count room = result (read_frames_of file first count (room / 4)).outcome
+host_read_frames file first count room = result_of (read_frames_of file first count (room / 4)).outcome
 
 unfoldable pub host_read_frames_into : List ℕ → Frames → Frames → List ℕ → List ℕ
 host_read_frames_into file first count lent =
@@ -80,10 +80,10 @@ host_read_frames_into file first count lent =
 
 -- document 02, L7: a summary is bytes; a pair is two samples, and so 8 bytes
 unfoldable pub host_peaks : List ℕ → ℕ → ℕ
-host_peaks file room = result (build_peaks_of file room).outcome
+host_peaks file room = result_of (build_peaks_of file room).outcome
 
 unfoldable pub host_peak : List ℕ → ℕ → ℕ → ℕ → ℕ
-host_peak summary g c room = result (read_peak_of summary g c (room / 4)).outcome
+host_peak summary g c room = result_of (read_peak_of summary g c (room / 4)).outcome
 
 unfoldable pub host_peak_into : List ℕ → ℕ → ℕ → List ℕ → List ℕ
 host_peak_into summary g c lent =
@@ -91,7 +91,7 @@ host_peak_into summary g c lent =
     filled (check_peak summary g c (length lent / 4)) (sample_bytes pair) lent
 
 unfoldable pub host_peaks_all : List ℕ → ℕ → ℕ
-host_peaks_all summary room = result (read_peaks_of summary (room / 4)).outcome
+host_peaks_all summary room = result_of (read_peaks_of summary (room / 4)).outcome
 
 unfoldable pub host_peaks_all_into : List ℕ → List ℕ → List ℕ
 host_peaks_all_into summary lent =
@@ -99,7 +99,7 @@ host_peaks_all_into summary lent =
     filled (check_all_peaks summary (length lent / 4)) (sample_bytes pairs) lent
 
 unfoldable pub host_peaks_check : List ℕ → List ℕ → ℕ
-host_peaks_check summary file = result (compare_peaks_of summary file).outcome
+host_peaks_check summary file = result_of (compare_peaks_of summary file).outcome
 
 -- ---- encoding: 38 then 39 before all other checks
 
@@ -112,7 +112,7 @@ check_host_encode bytes spec word room =
 unfoldable pub host_encode : List ℕ → PcmSpec → ℕ → ℕ → ℕ
 host_encode bytes spec word room =
     let file = encoded_file spec (mode_of word) (samples_from bytes) in
-    result (answered (check_host_encode bytes spec word room) (Wrote (length file))).outcome
+    result_of (answered (check_host_encode bytes spec word room) (Wrote (length file))).outcome
 
 unfoldable pub host_encode_into : List ℕ → PcmSpec → ℕ → List ℕ → List ℕ
 host_encode_into bytes spec word lent =
@@ -128,7 +128,7 @@ check_host_reencode bytes spec template room =
 
 unfoldable pub host_reencode : List ℕ → PcmSpec → List ℕ → ℕ → ℕ
 host_reencode bytes spec template room =
-    result (answered (check_host_reencode bytes spec template room) (Wrote (length template))).outcome
+    result_of (answered (check_host_reencode bytes spec template room) (Wrote (length template))).outcome
 
 unfoldable pub host_reencode_into : List ℕ → PcmSpec → List ℕ → List ℕ → List ℕ
 host_reencode_into bytes spec template lent =

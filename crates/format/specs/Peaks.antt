@@ -2,7 +2,7 @@
 use Rattle.std.specs.Prelude.{ℕ, zero, suc, ◌+◌, ◌*◌, List, [], ◌∷◌, ◌++◌, Bool, not, cond, length, take, get_or, ℤ, pos, ltb, eqb}
 use Rattle.std.specs.Int.Signed.{le_z}
 use Rattle.format.specs.Lists.{joined, same}
-use Rattle.format.specs.SevenBits.{seven, seven_length, seven_value, check_seven, past, folded, unfolded}
+use Rattle.format.specs.SevenBits.{seven, seven_value, check_seven, past, folded, unfolded}
 use Rattle.format.specs.Header.{fields_of, groups_of, group_bytes}
 use Rattle.format.specs.Units.{active}
 use Rattle.format.specs.Refusals.{refuse, ◌then◌, in_order}

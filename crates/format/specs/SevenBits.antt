@@ -1,6 +1,6 @@
 -- Document 02, L7: numbers in groups of seven bits, low group first, high bit set on all but the last byte. `s` is a
 -- list of bytes that begins with a number.
-use Rattle.std.specs.Prelude.{ℕ, zero, suc, ◌+◌, ◌-◌, ◌*◌, ◌/◌, ◌%◌, List, [], ◌∷◌, map, Bool, ◌&&◌, cond, length, take, drop, get_or, ℤ, pos, negsuc, ltb, eqb}
+use Rattle.std.specs.Prelude.{ℕ, zero, suc, ◌+◌, ◌-◌, ◌*◌, ◌/◌, ◌%◌, List, [], ◌∷◌, map, ◌&&◌, cond, length, take, drop, get_or, ℤ, pos, negsuc, ltb, eqb}
 use Rattle.format.specs.Numbers.{num}
 use Rattle.format.specs.Refusals.{refuse, ◌then◌}
 use Rattle.format.specs.declared.refusals.Refusal.TheVariants.{NumberCut, NumberLong, NumberTooLarge}

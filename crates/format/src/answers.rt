@@ -8,7 +8,7 @@ use crate::units::{Depth, Frames, Samples};
 
 // The header's numbers, as they stand in bytes 8 to 31: NcwHeader of the Rust. `frames` counts samples of one channel;
 // `table` and `start` are where the table and the data begin in the file, `size` is the data's in bytes.
-#[derive(Drop)]
+#[derive(Clone, Copy)]
 pub struct Fields {
     pub channels: u16,
     pub depth: u16,
@@ -20,7 +20,7 @@ pub struct Fields {
 }
 
 // What opening finds: the header's numbers, the group count and the format.
-#[derive(Drop)]
+#[derive(Clone, Copy)]
 pub struct Header {
     pub channels: u16,
     pub depth: Depth,
@@ -34,7 +34,7 @@ pub struct Header {
 }
 
 // The smallest and the largest of samples.
-#[derive(Drop)]
+#[derive(Clone, Copy)]
 pub struct Peak {
     pub smallest: i32,
     pub largest: i32,
@@ -42,7 +42,7 @@ pub struct Peak {
 
 // A file was opened, samples were read, no group was left, bytes were written, bytes were found to be what was expected
 // or not; or nothing was done, for this reason.
-#[derive(Drop)]
+#[derive(Clone, Copy)]
 pub enum Outcome {
     Opened(Header),
     Read(Samples),
@@ -55,7 +55,7 @@ pub enum Outcome {
 
 // The record that reading, encoding and re-encoding share. Of a refusal that concerns a group or a block, the file's
 // group and the channel; otherwise 0 and 0.
-#[derive(Drop)]
+#[derive(Clone, Copy)]
 pub struct Answer {
     pub outcome: Outcome,
     pub group: u32,

@@ -1,4 +1,5 @@
 // The types that promises speak of. Document 01 itself is in specs/, a file for each of its sections.
+#![tactic(auto)]
 
 mod answers;
 mod packed;

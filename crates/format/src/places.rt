@@ -4,7 +4,7 @@ ghost use Rattle.format.specs.Lists.{is_in};
 ghost use Rattle.format.specs.Places.{of_groups, of_blocks, inside, outside};
 
 // No group, the group, or the group and the channel.
-#[derive(Drop)]
+#[derive(Clone, Copy)]
 pub enum Named {
     NoGroup,
     TheGroup,

@@ -4,7 +4,7 @@ ghost use Rattle.format.specs.Refusals.{number, told};
 ghost use Rattle.format.specs.Places.{at_group, at_channel};
 
 // Why a call is refused; `number` has each in document 01's words.
-#[derive(Drop)]
+#[derive(Clone, Copy)]
 pub enum Refusal {
     TooShort,
     FileSignature,
@@ -52,7 +52,7 @@ pub enum Refusal {
 }
 
 // What a refusal tells besides its number.
-#[derive(Drop)]
+#[derive(Clone, Copy)]
 pub enum Told {
     Nothing,
     Bits(i16),
@@ -60,7 +60,7 @@ pub enum Told {
 }
 
 // Where it is refused: the file's group and its channel.
-#[derive(Drop)]
+#[derive(Clone, Copy)]
 pub struct Place {
     pub group: u32,
     pub channel: u16,
@@ -95,7 +95,7 @@ impl Place {
 }
 
 // What checks say: nothing is refused, or what is, and where.
-#[derive(Drop)]
+#[derive(Clone, Copy)]
 pub enum Checked {
     Fine,
     No(Refusal, Place),

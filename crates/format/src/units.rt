@@ -5,7 +5,7 @@ ghost use Rattle.format.specs.Units.{depth_word, depth_of, is_depth, bits_in, by
 ghost use Rattle.format.specs.Units.{samples_in, Framing, active};
 
 // A sample depth: its range, its bytes, and the sizes that no depth changes.
-#[derive(Drop)]
+#[derive(Clone, Copy)]
 pub enum Depth {
     Eight,
     Sixteen,
@@ -14,7 +14,7 @@ pub enum Depth {
 }
 
 // What a depth word says.
-#[derive(Drop)]
+#[derive(Clone, Copy)]
 pub enum DepthWord {
     Known(Depth),
     Unknown,
@@ -109,15 +109,15 @@ impl Depth {
 }
 
 // Marks and headers count frames.
-#[derive(Drop)]
+#[derive(Clone, Copy)]
 pub struct Frames(pub u32);
 
 // Buffers and slices count samples.
-#[derive(Drop)]
+#[derive(Clone, Copy)]
 pub struct Samples(pub u64);
 
 // What so many samples are in frames.
-#[derive(Drop)]
+#[derive(Clone, Copy)]
 pub enum Framed {
     Whole(Frames),
     Incomplete,

@@ -1,4 +1,6 @@
 // One group: its checks, from block headers alone, and its samples, put where they belong in what is lent.
+#![tactic(auto)]
+
 ghost use Rattle.std.specs.Prelude.{◌≡◌, ◌+◌, ◌<◌, ◌≤◌};
 ghost use Rattle.format.specs.Decoding.{check_group, channels_of};
 ghost use Rattle.lent_samples.specs.Lent.{lent_of, Put, PartFits, frames_put};

@@ -1,5 +1,7 @@
 // The header's numbers and the offset table, and their checks: header.rs of the Rust, and validate_offsets of its
 // reader.rs.
+#![tactic(auto)]
+
 ghost use Rattle.std.specs.Prelude.{◌≡◌, ◌+◌, ◌*◌, ◌<◌, ◌≤◌, length};
 ghost use Rattle.format.specs.Header.{is_signature, fields_of, groups_of, entry};
 ghost use Rattle.format.specs.Refusals.{refuse, in_order};

@@ -77,7 +77,7 @@ unfolding active joined
 active_sum frames w P zero h = let e : 0 ≡ min frames.0 (512 * 0) = omega arith in sym (mul-zero w) ∙ ap (λ (x : ℕ). w * x) e
 active_sum frames w P (suc n) h =
     let e : min frames.0 (512 * n) + min 512 (frames.0 - 512 * n) ≡ min frames.0 (512 * suc n) = omega (arith, mul-suc 512 n) in
-    length_append (joined P n) (P n) ∙ ap₂ (λ (x y : ℕ). x + y) (active_sum frames w P n (λ g q. h g (omega arith))) (h n (omega arith))
+    length-append (joined P n) (P n) ∙ ap₂ (λ (x y : ℕ). x + y) (active_sum frames w P n (λ g q. h g (omega arith))) (h n (omega arith))
     ∙ sym (mul-add w (min frames.0 (512 * n)) (min 512 (frames.0 - 512 * n))) ∙ ap (λ (x : ℕ). w * x) e
 
 module _ (s : List ℕ) (fine : check_decode s ≡ Fine) where

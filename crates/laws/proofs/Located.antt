@@ -84,7 +84,7 @@ unfolding ◌then◌
 
 infixr 20 ◌and_says◌
 pub ◌and_says◌ : {P : Refusal → Place → Type 0} {a b : Checked} → Says P a → Says P b → Says P (a then b)
-◌and_says◌ p q = p Says-then (λ fine. q)
+◌and_says◌ p q = p says_then (λ fine. q)
 
 -- ---- checks in order, each in its own place: the first that refuses, its index and what it says of that place
 pub record FirstIn (check : ℕ → Checked) (move : ℕ → Place → Place) (n : ℕ) (r : Refusal) (at : Place) : Type 0 where

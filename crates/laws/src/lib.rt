@@ -1,1 +1,2 @@
 // Laws of the definitions of format, each once: proofs/.
+#![tactic(auto)]

@@ -1,5 +1,7 @@
 // Little-endian numbers in lent bytes, read and put, and whole runs put: read_bytes.rs of the Rust, and its
 // `to_le_bytes`.
+#![tactic(auto)]
+
 ghost use Rattle.std.specs.Prelude.{◌≡◌, ◌+◌, ◌<◌, ◌≤◌, length};
 ghost use Rattle.std.proofs.lemmas.List.Edits.{sets};
 ghost use Rattle.format.specs.Lists.{over};

@@ -76,7 +76,7 @@ module _ (ch c first n : ℕ) (s run : List ℤ) (h : c < ch) (room : (first + n
   unfolding frames_from from
   frames_at_lem i l =
       let e : first * ch + (i * ch + c) ≡ (first + i) * ch + c = omega (arith, add-mul first i ch) in
-      get_or_take (n * ch) (drop (first * ch) s) (i * ch + c) (pos 0) (digits_lt l h) ∙ get_or-drop (first * ch) s (i * ch + c) (pos 0) ∙ ap (λ (k : ℕ). get_or s k (pos 0)) e
+      get_or-take (n * ch) (drop (first * ch) s) (i * ch + c) (pos 0) (digits_lt l h) ∙ get_or-drop (first * ch) s (i * ch + c) (pos 0) ∙ ap (λ (k : ℕ). get_or s k (pos 0)) e
 
   pub channel_taken : n ≤ length run → ((j : ℕ) → j < n → get_or run j (pos 0) ≡ get_or s ((first + j) * ch + c) (pos 0)) → take n run ≡ channel ch frames c
   channel_taken l each =
@@ -84,7 +84,7 @@ module _ (ch c first n : ℕ) (s run : List ℤ) (h : c < ch) (room : (first + n
       let long : length (take n run) ≡ n = length-take-le n run l in
       ext_get_or (pos 0) (take n run) (channel ch frames c) (long ∙ sym (channel_length ch n some frames frames_long c))
       (λ i p. let q : i < n = omega (arith, long) in
-      get_or_take n run i (pos 0) q ∙ each i q ∙ sym (channel_at ch n some frames frames_long c i q ∙ frames_at_lem i q))
+      get_or-take n run i (pos 0) q ∙ each i q ∙ sym (channel_at ch n some frames frames_long c i q ∙ frames_at_lem i q))
 
 -- two channels, padded
 pub split_taken : (s : List ℤ) {l r : List ℤ} {a : List (List ℤ)} → l ≡ channel 2 s 0 → r ≡ channel 2 s 1 → a ≡ padded l ∷ padded r ∷ [] → a ≡ padded_channels 2 s

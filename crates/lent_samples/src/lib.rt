@@ -1,5 +1,7 @@
 // Samples that the caller lends, as numbers or as bytes, four to a sample. Only `count`, `put_sample` and `sample_at`
 // look at which; the other of the two slices beside it is empty, or stays as it is.
+#![tactic(auto)]
+
 mod taking;
 
 ghost use Rattle.std.specs.Prelude.{◌≡◌, ◌+◌, ◌*◌, ◌^◌, ◌<◌, length, set};
@@ -9,7 +11,7 @@ use format::Samples;
 use le_bytes::put_u32_le;
 pub use taking::{all_within, channel, sample_at, split};
 
-#[derive(Drop)]
+#[derive(Clone, Copy)]
 pub enum Container {
     Words,
     Bytes,
@@ -17,7 +19,7 @@ pub enum Container {
 
 // Frames of a group and where they lie: `count` of them, from the group's frame `skip` on, at frame `first` of what is
 // lent.
-#[derive(Drop)]
+#[derive(Clone, Copy)]
 pub struct Part {
     pub first: usize,
     pub skip: usize,

@@ -6,7 +6,7 @@ use lib.ListN.{length}
 use borrow.Author.Tests.{lt-ltb, le-ltb, ne_eqb}
 use Rattle.format.specs.Refusals.{nowhere, refuse, ◌then◌}
 use Rattle.format.specs.Encoding.{encoded_file, check_encode_into, encode_of, encode_into}
-use Rattle.format.specs.Boundary.{samples_from, is_mode, mode_of, check_mode, result, check_host_encode, host_encode, host_encode_into}
+use Rattle.format.specs.Boundary.{samples_from, is_mode, mode_of, check_mode, result_of, check_host_encode, host_encode, host_encode_into}
 use Rattle.format.specs.declared.refusals.Refusal.{Refusal}
 use Rattle.format.specs.declared.refusals.Refusal.TheVariants.{UnknownMode, SampleBytes}
 use Rattle.format.specs.declared.refusals.Checked.TheVariants.{No}
@@ -31,7 +31,7 @@ module _ (m : ℕ) where
   mode_both p q = rw (ne_eqb m 0 p, ne_eqb m 1 q)
 
 module _ (b : List ℕ) (p : PcmSpec) (m : ℕ) where
-  told_no : (room : ℕ) (r : Refusal) (x : ℕ) → check_host_encode b p m room ≡ No r nowhere → x ≡ result (Refused r) → x ≡ host_encode b p m room
+  told_no : (room : ℕ) (r : Refusal) (x : ℕ) → check_host_encode b p m room ≡ No r nowhere → x ≡ result_of (Refused r) → x ≡ host_encode b p m room
   unfolding host_encode
   told_no room r x e t = refusal_told (check_host_encode b p m room) r nowhere e (Wrote (length (encoded_file p (mode_of m) (samples_from b)))) x t
 
@@ -44,7 +44,7 @@ module _ (b : List ℕ) (p : PcmSpec) (m : ℕ) where
     unfolding check_host_encode check_mode is_mode refuse ◌then◌
     mode_no room = rw (le-ltb m 3 other) refl
 
-    pub told_mode : (room x : ℕ) → x ≡ result (Refused UnknownMode) → x ≡ host_encode b p m room
+    pub told_mode : (room x : ℕ) → x ≡ result_of (Refused UnknownMode) → x ≡ host_encode b p m room
     told_mode room x t = told_no room UnknownMode x (mode_no room) t
 
     pub mode_keeps : (out : List ℕ) → out ≡ host_encode_into b p m out
@@ -56,7 +56,7 @@ module _ (b : List ℕ) (p : PcmSpec) (m : ℕ) where
       unfolding check_host_encode check_mode is_mode refuse ◌then◌
       bytes_no room = rw (lt-ltb m 3 known, bytes_refused b part) refl
 
-      pub told_bytes : (room x : ℕ) → x ≡ result (Refused SampleBytes) → x ≡ host_encode b p m room
+      pub told_bytes : (room x : ℕ) → x ≡ result_of (Refused SampleBytes) → x ≡ host_encode b p m room
       told_bytes room x t = told_no room SampleBytes x (bytes_no room) t
 
       pub bytes_keep : (out : List ℕ) → out ≡ host_encode_into b p m out
@@ -67,9 +67,9 @@ module _ (b : List ℕ) (p : PcmSpec) (m : ℕ) where
       unfolding check_host_encode check_mode is_mode refuse ◌then◌
       passes room = rw (lt-ltb m 3 known, bytes_fine b whole, read) refl
 
-      pub told_encode : (room : ℕ) (a : Answer) (x : ℕ) → x ≡ result a.outcome → a ≡ encode_of p mode (samples_from b) room → x ≡ host_encode b p m room
+      pub told_encode : (room : ℕ) (a : Answer) (x : ℕ) → x ≡ result_of a.outcome → a ≡ encode_of p mode (samples_from b) room → x ≡ host_encode b p m room
       unfolding encode_of host_encode
-      told_encode room a x t e = t ∙ ap (λ (y : Answer). result y.outcome) e ∙ rw (passes room, read) refl
+      told_encode room a x t e = t ∙ ap (λ (y : Answer). result_of y.outcome) e ∙ rw (passes room, read) refl
 
       pub put_file : (out after : List ℕ) → after ≡ encode_into p mode (samples_from b) out → after ≡ host_encode_into b p m out
       unfolding encode_into host_encode_into

@@ -12,7 +12,7 @@ use Rattle.format.specs.Answers.{filled}
 use Rattle.format.specs.Opening.{open_of}
 use Rattle.format.specs.Decoding.{check_decode, decoded_of, check_room, decode_of, decode_into}
 use Rattle.format.specs.FewFrames.{check_frames, check_frames_into, frames_at, read_frames_of, read_frames_into}
-use Rattle.format.specs.Boundary.{samples_from, sample_bytes, result, host_open, host_decode, host_decode_into, host_read_frames, host_read_frames_into, refusal_word, host_decode_refusal}
+use Rattle.format.specs.Boundary.{samples_from, sample_bytes, result_of, host_open, host_decode, host_decode_into, host_read_frames, host_read_frames_into, refusal_word, host_decode_refusal}
 use Rattle.format.specs.declared.refusals.Refusal.{Refusal}
 use Rattle.format.specs.declared.refusals.Refusal.TheVariants.{OutputTooShort}
 use Rattle.format.specs.declared.refusals.Place.{Place}
@@ -27,18 +27,18 @@ use Rattle.laws.proofs.FewFrames.{frames_long}
 use Rattle.lent_samples.proofs.Laws.{length_lent}
 use Rattle.lent_samples.proofs.Outcome.{same_bytes, bytes_over}
 
-pub told_open : (s : List ℕ) (a : Answer) (r : ℕ) → r ≡ result a.outcome → a ≡ open_of s → r ≡ host_open s
+pub told_open : (s : List ℕ) (a : Answer) (r : ℕ) → r ≡ result_of a.outcome → a ≡ open_of s → r ≡ host_open s
 unfolding host_open
-told_open s a r e p = e ∙ ap (λ (x : Answer). result x.outcome) p
+told_open s a r e p = e ∙ ap (λ (x : Answer). result_of x.outcome) p
 
-pub told_decode : (s b : List ℕ) (a : Answer) (r : ℕ) → r ≡ result a.outcome → a ≡ decode_of s (length (samples_from b)) → r ≡ host_decode s (length b)
+pub told_decode : (s b : List ℕ) (a : Answer) (r : ℕ) → r ≡ result_of a.outcome → a ≡ decode_of s (length (samples_from b)) → r ≡ host_decode s (length b)
 unfolding host_decode
-told_decode s b a r e p = e ∙ ap (λ (x : Answer). result x.outcome) (p ∙ ap (decode_of s) (length_lent b))
+told_decode s b a r e p = e ∙ ap (λ (x : Answer). result_of x.outcome) (p ∙ ap (decode_of s) (length_lent b))
 
-pub told_frames : (s b : List ℕ) (first count : Frames) (a : Answer) (r : ℕ) → r ≡ result a.outcome → a ≡ read_frames_of s first count (length (samples_from b))
+pub told_frames : (s b : List ℕ) (first count : Frames) (a : Answer) (r : ℕ) → r ≡ result_of a.outcome → a ≡ read_frames_of s first count (length (samples_from b))
     → r ≡ host_read_frames s first count (length b)
 unfolding host_read_frames
-told_frames s b first count a r e p = e ∙ ap (λ (x : Answer). result x.outcome) (p ∙ ap (read_frames_of s first count) (length_lent b))
+told_frames s b first count a r e p = e ∙ ap (λ (x : Answer). result_of x.outcome) (p ∙ ap (read_frames_of s first count) (length_lent b))
 
 -- ---- samples xs put into bytes, where the checks of so much room have passed
 module _ (check : ℕ → Checked) (xs : List ℤ) (fits : (room : ℕ) → check room ≡ Fine → length xs ≤ room) where

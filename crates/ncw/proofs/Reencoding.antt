@@ -6,7 +6,7 @@ use lib.ListN.{length}
 use Rattle.format.specs.Numbers.{Below}
 use Rattle.format.specs.Refusals.{nowhere, ◌then◌}
 use Rattle.format.specs.Reencoding.{reencoded_file, check_reencode_into, reencode_of, reencode_into}
-use Rattle.format.specs.Boundary.{samples_from, result, check_host_reencode, host_reencode, host_reencode_into, refusal_word, host_reencode_refusal}
+use Rattle.format.specs.Boundary.{samples_from, result_of, check_host_reencode, host_reencode, host_reencode_into, refusal_word, host_reencode_refusal}
 use Rattle.format.specs.declared.refusals.Refusal.{Refusal}
 use Rattle.format.specs.declared.refusals.Refusal.TheVariants.{SampleBytes}
 use Rattle.format.specs.declared.refusals.Place.{Place}
@@ -24,7 +24,7 @@ module _ (b : List ℕ) (p : PcmSpec) (t : List ℕ) where
     unfolding check_host_reencode ◌then◌
     bytes_no room = rw (bytes_refused b part) refl
 
-    pub told_bytes : (room x : ℕ) → x ≡ result (Refused SampleBytes) → x ≡ host_reencode b p t room
+    pub told_bytes : (room x : ℕ) → x ≡ result_of (Refused SampleBytes) → x ≡ host_reencode b p t room
     unfolding host_reencode
     told_bytes room x e = refusal_told (check_host_reencode b p t room) SampleBytes nowhere (bytes_no room) (Wrote (length t)) x e
 
@@ -41,9 +41,9 @@ module _ (b : List ℕ) (p : PcmSpec) (t : List ℕ) where
     unfolding check_host_reencode ◌then◌
     passes room = rw (bytes_fine b whole) refl
 
-    pub told_reencode : (room : ℕ) (a : Answer) (x : ℕ) → x ≡ result a.outcome → a ≡ reencode_of p (samples_from b) t room → x ≡ host_reencode b p t room
+    pub told_reencode : (room : ℕ) (a : Answer) (x : ℕ) → x ≡ result_of a.outcome → a ≡ reencode_of p (samples_from b) t room → x ≡ host_reencode b p t room
     unfolding reencode_of host_reencode
-    told_reencode room a x e f = e ∙ ap (λ (y : Answer). result y.outcome) f ∙ rw (passes room) refl
+    told_reencode room a x e f = e ∙ ap (λ (y : Answer). result_of y.outcome) f ∙ rw (passes room) refl
 
     pub put_refile : (out after : List ℕ) → after ≡ reencode_into p (samples_from b) t out → after ≡ host_reencode_into b p t out
     unfolding reencode_into host_reencode_into

@@ -20,7 +20,7 @@ use Rattle.format.specs.FewFrames.{check_frames_into, read_frames_of}
 use Rattle.format.specs.Peaks.{summary_of, check_peaks, check_peaks_into, build_peaks_of, verdict, compare_peaks_of, pair_count, check_summary, check_peak, pairs_read, read_peak_of, check_all_peaks, read_peaks_of}
 use Rattle.format.specs.Encoding.{encoded_file, check_encode_into, encode_of}
 use Rattle.format.specs.Reencoding.{check_reencode_into, reencode_of}
-use Rattle.format.specs.Boundary.{samples_from, result}
+use Rattle.format.specs.Boundary.{samples_from, result_of}
 use Rattle.format.specs.declared.units.Frames.{Frames}
 use Rattle.format.specs.declared.units.Samples.{Samples}
 use Rattle.format.specs.declared.refusals.Refusal.{Refusal}
@@ -41,14 +41,14 @@ use Rattle.lent_samples.proofs.Laws.{length_lent}
 
 -- ---- which it is
 module _ (o : Outcome) where
-  pub opened_is : (h : Header) (n : Samples) → o ≡ Opened h → n ≡ samples_in h.frames h.channels → 4 * n.0 ≡ result o
-  opened_is h n e p = ap (λ (m : Samples). 4 * m.0) p ∙ sym (ap result e)
+  pub opened_is : (h : Header) (n : Samples) → o ≡ Opened h → n ≡ samples_in h.frames h.channels → 4 * n.0 ≡ result_of o
+  opened_is h n e p = ap (λ (m : Samples). 4 * m.0) p ∙ sym (ap result_of e)
 
-  pub read_is : (n : Samples) → o ≡ Read n → 4 * n.0 ≡ result o
-  read_is n e = sym (ap result e)
+  pub read_is : (n : Samples) → o ≡ Read n → 4 * n.0 ≡ result_of o
+  read_is n e = sym (ap result_of e)
 
-  pub refused_is : (r : Refusal) (k : ℕ) → o ≡ Refused r → k ≡ number r → 2 ^ 63 + k ≡ result o
-  refused_is r k e p = ap (λ (m : ℕ). 2 ^ 63 + m) p ∙ sym (ap result e)
+  pub refused_is : (r : Refusal) (k : ℕ) → o ≡ Refused r → k ≡ number r → 2 ^ 63 + k ≡ result_of o
+  refused_is r k e p = ap (λ (m : ℕ). 2 ^ 63 + m) p ∙ sym (ap result_of e)
 
 -- ---- that it fits: frames and channels are of 32 and 16 bits
 counts_lt : (frames channels : ℕ) → frames < 2 ^ 32 → channels < 2 ^ 16 → 4 * (frames * channels) < 2 ^ 64

@@ -6,7 +6,7 @@ use lib.ListN.{length}
 use borrow.Author.Tests.{eq-eqb, ne_eqb}
 use Rattle.format.specs.Refusals.{nowhere, refuse}
 use Rattle.format.specs.Answers.{answered, filled}
-use Rattle.format.specs.Boundary.{check_bytes, result}
+use Rattle.format.specs.Boundary.{check_bytes, result_of}
 use Rattle.format.specs.declared.refusals.Refusal.{Refusal}
 use Rattle.format.specs.declared.refusals.Refusal.TheVariants.{SampleBytes}
 use Rattle.format.specs.declared.refusals.Place.{Place}
@@ -26,8 +26,8 @@ module _ (b : List ℕ) where
 
 -- the checks k refuse by r
 module _ (k : Checked) (r : Refusal) (at : Place) (e : k ≡ No r at) where
-  pub refusal_told : (o : Outcome) (x : ℕ) → x ≡ result (Refused r) → x ≡ result (answered k o).outcome
-  refusal_told o x t = t ∙ sym (ap (λ (c : Checked). result (answered c o).outcome) e)
+  pub refusal_told : (o : Outcome) (x : ℕ) → x ≡ result_of (Refused r) → x ≡ result_of (answered k o).outcome
+  refusal_told o x t = t ∙ sym (ap (λ (c : Checked). result_of (answered c o).outcome) e)
 
   pub refusal_keeps : (w out : List ℕ) → out ≡ filled k w out
   refusal_keeps w out = sym (ap (λ (c : Checked). filled c w out) e)

@@ -1,4 +1,6 @@
 // The host boundary, on numbers and byte slices: samples are 4 little-endian bytes each.
+#![tactic(auto)]
+
 mod words;
 
 ghost use Rattle.std.specs.Prelude.{◌≡◌, ◌*◌, ◌<◌, ◌^◌};
@@ -6,7 +8,7 @@ ghost use Rattle.format.specs.declared.settings.PcmSpec.{PcmSpec};
 ghost use Rattle.format.specs.declared.units.Frames.{Frames};
 ghost use Rattle.format.specs.declared.units.Samples.{Samples};
 ghost use Rattle.format.specs.declared.answers.Outcome.TheVariants.{Read};
-ghost use Rattle.format.specs.Boundary.{mode_of, result};
+ghost use Rattle.format.specs.Boundary.{mode_of, result_of};
 ghost use Rattle.format.specs.Promises.{HostOpens, HostDecodes, HostReadsFrames, HostEncodes, HostReencodes};
 ghost use Rattle.format.specs.Promises.{HostBuildsPeaks, HostReadsPeak, HostReadsPeaks, HostComparesPeaks};
 ghost use Rattle.format.specs.Promises.{HostDecodeRefuses, HostReencodeRefuses};
@@ -18,7 +20,7 @@ use lent_samples::Container;
 // The length in bytes (for opening, what decoding would write), 1 for yes, 0 for no, or 2^63 plus the refusal number.
 fn result(outcome: Outcome) -> u64
     requires { (n : Samples) → outcome ≡ Read n → 4 * n.0 < 2 ^ 64 }
-    ensures* { λ r. ⌜ r ≡ result outcome ⌝ }
+    ensures { result ≡ result_of outcome }
 {
     match outcome {
         Outcome::Opened(h) => {
@@ -35,9 +37,8 @@ fn result(outcome: Outcome) -> u64
 }
 
 // Opens a file: how many bytes `ncw_decode` would write.
-#[unsafe(no_mangle)]
-pub extern "C" fn ncw_open(file: &[u8]) -> u64
-    ensures* { λ r. ⌜ HostOpens file.now r ⌝ }
+pub fn ncw_open(file: &[u8]) -> u64
+    ensures { HostOpens file.now result }
 {
     let answer = opening::open(file);
     let outcome = answer.outcome;
@@ -45,9 +46,8 @@ pub extern "C" fn ncw_open(file: &[u8]) -> u64
 }
 
 // Decodes a file into `samples`.
-#[unsafe(no_mangle)]
-pub extern "C" fn ncw_decode(file: &[u8], samples: &mut [u8]) -> u64
-    ensures* { λ r. ⌜ HostDecodes file.now samples.old r samples.new ⌝ }
+pub fn ncw_decode(file: &[u8], samples: &mut [u8]) -> u64
+    ensures { HostDecodes file.now samples.old result samples.new }
 {
     let answer = reader::decode_lent(Container::Bytes, file, &mut [], samples);
     let outcome = answer.outcome;
@@ -55,11 +55,10 @@ pub extern "C" fn ncw_decode(file: &[u8], samples: &mut [u8]) -> u64
 }
 
 // Reads `count` frames of a file, from the frame `first` on, into `samples`.
-#[unsafe(no_mangle)]
-pub extern "C" fn ncw_read_frames(file: &[u8], first: u32, count: u32, samples: &mut [u8]) -> u64
-    ensures* { λ r. ⌜ (let first : Frames = record { 0 = first } in
+pub fn ncw_read_frames(file: &[u8], first: u32, count: u32, samples: &mut [u8]) -> u64
+    ensures { (let first : Frames = record { 0 = first } in
         let count : Frames = record { 0 = count } in
-        HostReadsFrames file.now first count samples.old r samples.new) ⌝ }
+        HostReadsFrames file.now first count samples.old result samples.new) }
 {
     let answer = few_frames::read_frames_lent(
         Container::Bytes,
@@ -74,9 +73,8 @@ pub extern "C" fn ncw_read_frames(file: &[u8], first: u32, count: u32, samples: 
 }
 
 // Builds the summary of a file's peaks into `summary`.
-#[unsafe(no_mangle)]
-pub extern "C" fn ncw_peaks(file: &[u8], summary: &mut [u8]) -> u64
-    ensures* { λ r. ⌜ HostBuildsPeaks file.now summary.old r summary.new ⌝ }
+pub fn ncw_peaks(file: &[u8], summary: &mut [u8]) -> u64
+    ensures { HostBuildsPeaks file.now summary.old result summary.new }
 {
     let answer = peaks::build_peaks(file, summary);
     let outcome = answer.outcome;
@@ -84,9 +82,8 @@ pub extern "C" fn ncw_peaks(file: &[u8], summary: &mut [u8]) -> u64
 }
 
 // Reads the pair of a group and a channel from a summary into `pair`: the smallest, the largest.
-#[unsafe(no_mangle)]
-pub extern "C" fn ncw_peak(summary: &[u8], group: u32, channel: u32, pair: &mut [u8]) -> u64
-    ensures* { λ r. ⌜ HostReadsPeak summary.now group channel pair.old r pair.new ⌝ }
+pub fn ncw_peak(summary: &[u8], group: u32, channel: u32, pair: &mut [u8]) -> u64
+    ensures { HostReadsPeak summary.now group channel pair.old result pair.new }
 {
     let answer = summary::read_peak_lent(Container::Bytes, summary, group, channel, &mut [], pair);
     let outcome = answer.outcome;
@@ -94,9 +91,8 @@ pub extern "C" fn ncw_peak(summary: &[u8], group: u32, channel: u32, pair: &mut 
 }
 
 // Reads all pairs of a summary into `pairs`, groups in order and channels within.
-#[unsafe(no_mangle)]
-pub extern "C" fn ncw_peaks_all(summary: &[u8], pairs: &mut [u8]) -> u64
-    ensures* { λ r. ⌜ HostReadsPeaks summary.now pairs.old r pairs.new ⌝ }
+pub fn ncw_peaks_all(summary: &[u8], pairs: &mut [u8]) -> u64
+    ensures { HostReadsPeaks summary.now pairs.old result pairs.new }
 {
     let answer = summary::read_peaks_lent(Container::Bytes, summary, &mut [], pairs);
     let outcome = answer.outcome;
@@ -104,9 +100,8 @@ pub extern "C" fn ncw_peaks_all(summary: &[u8], pairs: &mut [u8]) -> u64
 }
 
 // Whether the bytes are the summary of a file: 1 yes, 0 no.
-#[unsafe(no_mangle)]
-pub extern "C" fn ncw_peaks_check(summary: &[u8], file: &[u8]) -> u64
-    ensures* { λ r. ⌜ HostComparesPeaks summary.now file.now r ⌝ }
+pub fn ncw_peaks_check(summary: &[u8], file: &[u8]) -> u64
+    ensures { HostComparesPeaks summary.now file.now result }
 {
     let answer = peaks::compare_peaks(summary, file);
     let outcome = answer.outcome;
@@ -115,7 +110,7 @@ pub extern "C" fn ncw_peaks_check(summary: &[u8], file: &[u8]) -> u64
 
 // The modes by number: 0 Auto, 1 Direct, 2 MidSide.
 pub fn mode_of(mode: u32) -> StereoMode
-    ensures* { λ r. ⌜ r ≡ mode_of mode ⌝ }
+    ensures { result ≡ mode_of mode }
 {
     match mode {
         0 => StereoMode::Auto,
@@ -125,8 +120,7 @@ pub fn mode_of(mode: u32) -> StereoMode
 }
 
 // Encodes samples into `file`. 38: the mode is unknown; 39: the bytes are no whole samples.
-#[unsafe(no_mangle)]
-pub extern "C" fn ncw_encode(
+pub fn ncw_encode(
     samples: &[u8],
     channels: u16,
     depth: u16,
@@ -134,9 +128,9 @@ pub extern "C" fn ncw_encode(
     mode: u32,
     file: &mut [u8],
 ) -> u64
-    ensures* { λ r. ⌜ (let spec : PcmSpec =
+    ensures { (let spec : PcmSpec =
         record { channels = channels; bits_per_sample = depth; sample_rate = rate } in
-        HostEncodes samples.now spec mode file.old r file.new) ⌝ }
+        HostEncodes samples.now spec mode file.old result file.new) }
 {
     if 3 <= mode {
         return result(Outcome::Refused(Refusal::UnknownMode));
@@ -155,8 +149,7 @@ pub extern "C" fn ncw_encode(
 }
 
 // Re-encodes samples with a template into `file`.
-#[unsafe(no_mangle)]
-pub extern "C" fn ncw_reencode(
+pub fn ncw_reencode(
     samples: &[u8],
     channels: u16,
     depth: u16,
@@ -164,10 +157,10 @@ pub extern "C" fn ncw_reencode(
     template: &[u8],
     file: &mut [u8],
 ) -> u64
-    ensures* { λ r. ⌜ (let spec : PcmSpec =
+    ensures { (let spec : PcmSpec =
         record { channels = channels; bits_per_sample = depth; sample_rate = rate } in
         let lent = file.old in
-        HostReencodes samples.now spec template.now lent r file.new) ⌝ }
+        HostReencodes samples.now spec template.now lent result file.new) }
 {
     if samples.len() % 4 != 0 {
         return result(Outcome::Refused(Refusal::SampleBytes));
@@ -183,17 +176,15 @@ pub extern "C" fn ncw_reencode(
 }
 
 // What `ncw_decode` refuses in so many bytes of room, and where; 0 where it decodes. Nothing is written.
-#[unsafe(no_mangle)]
-pub extern "C" fn ncw_decode_refusal(file: &[u8], room: u64) -> u64
-    ensures* { λ r. ⌜ HostDecodeRefuses file.now room r ⌝ }
+pub fn ncw_decode_refusal(file: &[u8], room: u64) -> u64
+    ensures { HostDecodeRefuses file.now room result }
 {
     let checked = reader::check_decode(file, Samples(room / 4));
     refusal_word(checked)
 }
 
 // What `ncw_reencode` refuses in so many bytes of room, and where; 0 where it re-encodes. Nothing is written.
-#[unsafe(no_mangle)]
-pub extern "C" fn ncw_reencode_refusal(
+pub fn ncw_reencode_refusal(
     samples: &[u8],
     channels: u16,
     depth: u16,
@@ -201,9 +192,9 @@ pub extern "C" fn ncw_reencode_refusal(
     template: &[u8],
     room: u64,
 ) -> u64
-    ensures* { λ r. ⌜ (let spec : PcmSpec =
+    ensures { (let spec : PcmSpec =
         record { channels = channels; bits_per_sample = depth; sample_rate = rate } in
-        HostReencodeRefuses samples.now spec template.now room r) ⌝ }
+        HostReencodeRefuses samples.now spec template.now room result) }
 {
     if samples.len() % 4 != 0 {
         return refusal_word(Checked::No(Refusal::SampleBytes, NOWHERE));

@@ -1,4 +1,8 @@
 // The program that document 01 adds: what opening says of standard input.
-fn main() {
-    ncw_open_print::print_opening(libc::STDIN_FILENO);
+#![tactic(auto)]
+
+use std::io;
+
+fn main(rt: HostRuntime) -> io::Result<()> {
+    ncw_open_print::print_opening(&rt, &mut rt.reader())
 }

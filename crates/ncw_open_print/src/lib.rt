@@ -1,7 +1,11 @@
 // What opening says of a file of up to 65,536 bytes, printed: the job of `ncw_open`.
+#![tactic(auto)]
+
 ghost use Rattle.std.specs.Prelude.{◌≡◌, replicate};
 
 use format::Outcome;
+use std::io;
+use std::io::Read;
 
 // The largest file that is opened.
 const MOST_BYTES: usize = 65536;
@@ -13,24 +17,22 @@ fn buffer() -> [u8; MOST_BYTES + 1]
     [0; MOST_BYTES + 1]
 }
 
-fn print_file(file: &[u8]) {
+fn print_file(rt: &impl Print, file: &[u8]) -> io::Result<()> {
     if MOST_BYTES < file.len() {
-        report::print(b"too large\n");
-        return;
+        return report::print(rt, b"too large\n");
     }
     let answer = opening::open(file);
     let outcome = answer.outcome;
     if let Outcome::Refused(r) = outcome {
-        report::print_refusal(r);
-        report::print(b"\n");
-        return;
+        report::print_refusal(rt, r)?;
+        return report::print(rt, b"\n");
     }
-    report::print_opened(answer, b"\n");
+    report::print_opened(rt, answer, b"\n")
 }
 
 // Reads `input` to its end, or as far as is taken, and prints what opening says of it.
-pub fn print_opening(input: i32) {
+pub fn print_opening<R: Read>(rt: &impl Print, input: &mut R) -> io::Result<()> {
     let mut file = buffer();
-    let n = io::read_full(input, &mut file);
-    print_file(&file[..n]);
+    let n = intake::read_full(input, &mut file)?;
+    print_file(rt, &file[..n])
 }

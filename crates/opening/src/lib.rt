@@ -1,4 +1,6 @@
 // Opening: NcwReader::read of the Rust.
+#![tactic(auto)]
+
 ghost use Rattle.std.specs.Prelude.{◌≡◌, ◌+◌, ◌≤◌, length};
 ghost use Rattle.format.specs.Header.{fields_of, groups_of, entry};
 ghost use Rattle.format.specs.Opening.{check_first, format_of, check_open, header_of};

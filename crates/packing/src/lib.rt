@@ -1,4 +1,6 @@
 // Values packed least significant bit first, and the width that holds them: pack, width and deltas of writer.rs.
+#![tactic(auto)]
+
 ghost use Rattle.std.specs.Prelude.{◌≡◌, ℕ, ◌<◌, ◌≤◌, ◌^◌, true, pos, length};
 ghost use Rattle.std.specs.Int.Signed.{mag};
 ghost use Rattle.format.specs.Lists.{every};
@@ -15,7 +17,7 @@ use format::{Checked, Depth, NOWHERE, Refusal};
 use le_bytes::put_u32_le;
 
 // The twin of the reading cursor: bits that wait to be written, how many, and where the next four bytes go.
-#[derive(Drop)]
+#[derive(Clone, Copy)]
 struct PutCursor {
     acc: u64,
     have: u32,

@@ -3,7 +3,6 @@ use Prim.Native.Nat.{ℕ, ◌+◌, ◌<◌}
 use mathlib.Core.Path.{◌≡◌, refl, sym, ap, ◌∙◌}
 use mathlib.Core.List.{List, ◌++◌}
 use native.Mathlib.Numerals.{add-one}
-use lib.ListN.{length}
 use Rattle.format.specs.Lists.{joined}
 use Rattle.laws.proofs.Parts.{around}
 use Rattle.peaks.specs.Passes.{found, left, Fits}

@@ -1,6 +1,8 @@
 // Document 02, L7: the peaks of a PCM file as a summary, built and checked. Every refusal is found first. Building goes
 // over the groups once where there is room for any summary of so many pairs, and otherwise twice: the first time to
 // find how long this one is.
+#![tactic(auto)]
+
 mod checking;
 mod extremes;
 mod pass;

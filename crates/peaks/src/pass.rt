@@ -7,7 +7,7 @@ ghost use Rattle.peaks.specs.Passes.{place_of, Fits, Passes};
 use format::Peak;
 use seven_bits::{fold, length_of, put, sevens_of, stands};
 
-#[derive(Drop)]
+#[derive(Clone, Copy)]
 pub enum Pass {
     Measure,
     Write,
@@ -15,7 +15,7 @@ pub enum Pass {
 }
 
 // The place behind what it went over; or it stopped: what is held there is another number, or ends.
-#[derive(Drop)]
+#[derive(Clone, Copy)]
 pub enum Passed {
     On(usize),
     Stopped,

@@ -18,7 +18,7 @@ use Rattle.format.specs.Places.{in_group}
 use Rattle.format.specs.Answers.{answered, filled}
 use Rattle.format.specs.Encoding.{group_in, check_samples, frames_of}
 use Rattle.format.specs.Reencoding.{check_reencode_group, reencoded_group, check_same, check_bounds, check_rising, check_template, check_reencode, check_reencode_into, reencoded_file, reencode_of, reencode_into}
-use Rattle.format.specs.Boundary.{samples_from, check_bytes, result, check_host_reencode, host_reencode, host_reencode_into, refusal_word, host_reencode_refusal}
+use Rattle.format.specs.Boundary.{samples_from, check_bytes, result_of, check_host_reencode, host_reencode, host_reencode_into, refusal_word, host_reencode_refusal}
 use Rattle.format.specs.declared.refusals.Refusal.TheVariants.{TooShort, FileSignature, TemplateOffsets, OutputTooShort}
 use Rattle.format.specs.declared.refusals.Checked.{Checked}
 use Rattle.format.specs.declared.refusals.Checked.TheVariants.{Fine, No}
@@ -134,8 +134,8 @@ module _ (p : PcmSpec) (s : List ℤ) (t : List ℕ) (ok : check_reencode p s t 
     unfolding host_reencode check_host_reencode reencode_of ◌then◌
     host_says_same = by (check_bytes b)
       where
-        by : (c : Checked) → result (answered (c then check_reencode_into q z t' (length room)) (Wrote (length t'))).outcome ≡ result (answered (c then check_reencode_into q z t (length room)) (Wrote (length t))).outcome
-        by Fine = ap (λ (a : Answer). result a.outcome) (says_same q z (length room))
+        by : (c : Checked) → result_of (answered (c then check_reencode_into q z t' (length room)) (Wrote (length t'))).outcome ≡ result_of (answered (c then check_reencode_into q z t (length room)) (Wrote (length t))).outcome
+        by Fine = ap (λ (a : Answer). result_of a.outcome) (says_same q z (length room))
         by (No r at) = refl
 
     -- and what it would refuse, and where

@@ -65,11 +65,11 @@ block_bytes_lem : (base bits : ℤ) (flags : ℕ) (run : List ℕ) → AllBytes 
 unfolding block_bytes block_mark every
 block_bytes_lem base bits flags run p =
     by_test block_mark refl
-    and_Bytes le_bytes 4 (code_of 32 base)
-    and_Bytes le_bytes 2 (code_of 16 bits)
-    and_Bytes le_bytes 2 flags
-    and_Bytes le_bytes 4 0
-    and_Bytes p
+    and_bytes le_bytes 4 (code_of 32 base)
+    and_bytes le_bytes 2 (code_of 16 bits)
+    and_bytes le_bytes 2 flags
+    and_bytes le_bytes 4 0
+    and_bytes p
 
 encoded_bytes : (depth flags : ℕ) (xs : List ℤ) → AllBytes (encoded_block depth flags xs)
 unfolding encoded_block
@@ -105,22 +105,22 @@ header_bytes_lem : (p : PcmSpec) (frames : Frames) (start size : ℕ) → AllByt
 unfolding header_bytes signature every
 header_bytes_lem p frames start size =
     by_test (signature 0x31) refl
-    and_Bytes le_bytes 2 p.channels
-    and_Bytes le_bytes 2 p.bits_per_sample
-    and_Bytes le_bytes 4 p.sample_rate
-    and_Bytes le_bytes 4 frames.0
-    and_Bytes le_bytes 4 120
-    and_Bytes le_bytes 4 start
-    and_Bytes le_bytes 4 size
-    and_Bytes by_test (replicate 88 0) refl
+    and_bytes le_bytes 2 p.channels
+    and_bytes le_bytes 2 p.bits_per_sample
+    and_bytes le_bytes 4 p.sample_rate
+    and_bytes le_bytes 4 frames.0
+    and_bytes le_bytes 4 120
+    and_bytes le_bytes 4 start
+    and_bytes le_bytes 4 size
+    and_bytes by_test (replicate 88 0) refl
 
 assembled_bytes : (p : PcmSpec) (frames : Frames) (part : ℕ → List ℕ) → ((g : ℕ) → AllBytes (part g)) → AllBytes (assembled p frames part)
 unfolding assembled table_of
 assembled_bytes p frames part b =
     let n = groups_of frames in
     header_bytes_lem p frames (120 + 4 * (n + 1)) (length (joined part n))
-    and_Bytes joined_bytes (λ g. le 4 (length (joined part g))) (n + 1) (λ g. le_bytes 4 (length (joined part g)))
-    and_Bytes joined_bytes part n b
+    and_bytes joined_bytes (λ g. le 4 (length (joined part g))) (n + 1) (λ g. le_bytes 4 (length (joined part g)))
+    and_bytes joined_bytes part n b
 
 -- the file is bytes
 pub below_file : (p : PcmSpec) (mode : StereoMode) (s : List ℤ) → Below 256 (encoded_file p mode s)

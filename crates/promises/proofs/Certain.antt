@@ -18,7 +18,7 @@ use Rattle.format.specs.FewFrames.{check_frames, frames_count, check_frames_into
 use Rattle.format.specs.Peaks.{summary_of, check_peaks, check_peaks_into, build_peaks_of, build_peaks_into, verdict, compare_peaks_of, pair_count, pair_number, pairs_read, pairs_from, check_summary, check_peak, read_peak_of, read_peak_into, check_all_peaks, read_peaks_of, read_peaks_into}
 use Rattle.format.specs.Encoding.{encoded_file, check_encode, check_encode_into, encode_of, encode_into}
 use Rattle.format.specs.Reencoding.{reencoded_file, check_reencode, check_reencode_into, reencode_of, reencode_into}
-use Rattle.format.specs.Boundary.{samples_from, sample_bytes, mode_of, check_mode, check_bytes, result, host_decode, host_decode_into, host_read_frames, host_read_frames_into, host_peaks, host_peak, host_peak_into, host_peaks_all, host_peaks_all_into, check_host_encode, host_encode, host_encode_into, check_host_reencode, host_reencode, host_reencode_into}
+use Rattle.format.specs.Boundary.{samples_from, sample_bytes, mode_of, check_mode, check_bytes, result_of, host_decode, host_decode_into, host_read_frames, host_read_frames_into, host_peaks, host_peak, host_peak_into, host_peaks_all, host_peaks_all_into, check_host_encode, host_encode, host_encode_into, check_host_reencode, host_reencode, host_reencode_into}
 use Rattle.format.specs.Promises.{Opens, Decodes, Steps, Advances, ReadsFrames, BuildsPeaks, ComparesPeaks, ReadsPeak, ReadsPeaks, Encodes, Reencodes, HostOpens, HostDecodes, HostReadsFrames, HostEncodes, HostReencodes, HostDecodeRefuses, HostReencodeRefuses}
 use Rattle.format.specs.Promises.{HostBuildsPeaks, HostComparesPeaks, HostReadsPeak, HostReadsPeaks}
 use Rattle.format.specs.declared.units.Frames.{Frames}
@@ -254,31 +254,31 @@ unfolding reencode_of reencode_into
 reencode_keeps p s t lent x at after e = refused_keeps (check_reencode_into p s t (length lent)) (Wrote (length t)) x at (reencoded_file s t) lent after refl e.0 e.1
 
 -- at the boundary, with the checks c, the outcome o of success and what it writes
-host_keeps : (c : Checked) (o : Outcome) (w lent : List ℕ) → (length lent < 2 ^ 63 → c ≡ Fine → result o < 2 ^ 63)
-    → HostKeeps (λ (r : ℕ) (after : List ℕ). (r ≡ result (answered c o).outcome) × (after ≡ filled c w lent)) lent
+host_keeps : (c : Checked) (o : Outcome) (w lent : List ℕ) → (length lent < 2 ^ 63 → c ≡ Fine → result_of o < 2 ^ 63)
+    → HostKeeps (λ (r : ℕ) (after : List ℕ). (r ≡ result_of (answered c o).outcome) × (after ≡ filled c w lent)) lent
 host_keeps c o w lent few short r after l p =
     let e = p.0 in
     let x = host_refused c o (few short) (omega arith) in
     no_keeps c x.0 x.1 w lent after x.2 p.1
 
 -- what is written has room, so its length is below 2 ^ 63
-pub decode_short : (s : List ℕ) (room : ℕ) → room < 2 ^ 63 → (check_decode s then check_room s (room / 4)) ≡ Fine → result (Read (decoded_count s)) < 2 ^ 63
+pub decode_short : (s : List ℕ) (room : ℕ) → room < 2 ^ 63 → (check_decode s then check_room s (room / 4)) ≡ Fine → result_of (Read (decoded_count s)) < 2 ^ 63
 unfolding check_room
 decode_short s room short fine = let q = has_room (check_decode s) (room / 4) (decoded_count s).0 OutputTooShort fine in omega arith
 
-pub frames_short : (s : List ℕ) (first count : Frames) (room : ℕ) → room < 2 ^ 63 → check_frames_into s first count (room / 4) ≡ Fine → result (Read (frames_count s count)) < 2 ^ 63
+pub frames_short : (s : List ℕ) (first count : Frames) (room : ℕ) → room < 2 ^ 63 → check_frames_into s first count (room / 4) ≡ Fine → result_of (Read (frames_count s count)) < 2 ^ 63
 unfolding check_frames_into
 frames_short s first count room short fine = let q = has_room (check_frames s first count) (room / 4) (frames_count s count).0 OutputTooShort fine in omega arith
 
-pub build_short : (s : List ℕ) (room : ℕ) → room < 2 ^ 63 → check_peaks_into s room ≡ Fine → result (Wrote (length (summary_of s))) < 2 ^ 63
+pub build_short : (s : List ℕ) (room : ℕ) → room < 2 ^ 63 → check_peaks_into s room ≡ Fine → result_of (Wrote (length (summary_of s))) < 2 ^ 63
 unfolding check_peaks_into
 build_short s room short fine = let q = has_room (check_peaks s) room (length (summary_of s)) OutputTooShort fine in omega arith
 
-pub pairs_short : (s : List ℕ) (room : ℕ) → room < 2 ^ 63 → check_all_peaks s (room / 4) ≡ Fine → result (Read (pairs_read (pair_count s))) < 2 ^ 63
+pub pairs_short : (s : List ℕ) (room : ℕ) → room < 2 ^ 63 → check_all_peaks s (room / 4) ≡ Fine → result_of (Read (pairs_read (pair_count s))) < 2 ^ 63
 unfolding check_all_peaks
 pairs_short s room short fine = let q = has_room (check_summary s) (room / 4) (2 * pair_count s) OutputTooShort fine in omega arith
 
-pub reencode_short : (b : List ℕ) (p : PcmSpec) (t : List ℕ) (room : ℕ) → room < 2 ^ 63 → check_host_reencode b p t room ≡ Fine → result (Wrote (length t)) < 2 ^ 63
+pub reencode_short : (b : List ℕ) (p : PcmSpec) (t : List ℕ) (room : ℕ) → room < 2 ^ 63 → check_host_reencode b p t room ≡ Fine → result_of (Wrote (length t)) < 2 ^ 63
 unfolding check_host_reencode check_reencode_into
 reencode_short b p t room short fine =
     let q = has_room (check_reencode p (samples_from b) t) room (length t) OutputTooShort (others_fine (check_bytes b) _ fine) in omega arith

@@ -17,7 +17,7 @@ use Rattle.format.specs.Refusals.{refuse, ◌then◌, nowhere}
 use Rattle.format.specs.Answers.{answered, filled}
 use Rattle.format.specs.Encoding.{mid, side, equal_parity, encoded_file, check_encoder, check_samples, check_encode_into, encode_of, encode_into}
 use Rattle.format.specs.Reencoding.{check_reencode_into, reencode_of}
-use Rattle.format.specs.Boundary.{samples_from, is_mode, mode_of, result, check_mode, check_bytes, check_host_encode, host_encode, host_encode_into, check_host_reencode, host_reencode}
+use Rattle.format.specs.Boundary.{samples_from, is_mode, mode_of, result_of, check_mode, check_bytes, check_host_encode, host_encode, host_encode_into, check_host_reencode, host_reencode}
 use Rattle.format.specs.Promises.{Encodes, Reencodes, HostEncodes, HostReencodes}
 use Rattle.format.specs.declared.refusals.Refusal.TheVariants.{WriterSpec, ValueOutside, OutputTooShort, NotStereo}
 use Rattle.format.specs.declared.refusals.Checked.{Checked}
@@ -146,7 +146,7 @@ host_auto_direct b p lent after r other =
     let s = samples_from b in
     let checks : check_host_encode b p 0 (length lent) ≡ check_host_encode b p 1 (length lent) = ap (λ (c : Checked). Fine then check_bytes b then c) (checks_same p s other (length lent)) in
     let file = file_same p s other in
-    let says = ap₂ (λ (c : Checked) (f : List ℕ). result (answered c (Wrote (length f))).outcome) checks file in
+    let says = ap₂ (λ (c : Checked) (f : List ℕ). result_of (answered c (Wrote (length f))).outcome) checks file in
     let leaves = ap₂ (λ (c : Checked) (f : List ℕ). filled c f lent) checks file in
     (λ e. (e.0 ∙ says, e.1 ∙ leaves), λ e. (e.0 ∙ sym says, e.1 ∙ sym leaves))
 

@@ -20,7 +20,7 @@ use Rattle.format.specs.Places.{located, at_group, at_channel, in_group}
 use Rattle.format.specs.Answers.{answered}
 use Rattle.format.specs.Encoding.{differences, least_width, encoded_block, blocks, mid, side, mid_side, padded_channels, frames_of, takes_mid, is_mid_side, encoded_group, group_in, encoded_group_at, assembled, encoded_file, check_spec, check_encoder, check_samples, check_stereo, check_data_size, check_size, check_encode, check_encode_into}
 use Rattle.format.specs.Reencoding.{check_template, check_reencoder, check_reencode, check_reencode_group, check_reencode_into}
-use Rattle.format.specs.Boundary.{samples_from, is_mode, mode_of, result, check_mode, check_bytes, check_host_encode, check_host_reencode}
+use Rattle.format.specs.Boundary.{samples_from, is_mode, mode_of, result_of, check_mode, check_bytes, check_host_encode, check_host_reencode}
 use Rattle.format.specs.declared.refusals.Refusal.{Refusal}
 use Rattle.format.specs.declared.refusals.Refusal.TheVariants.{WriterSpec, ValueOutside, OutputTooShort, NotStereo}
 use Rattle.format.specs.declared.refusals.Place.{Place}
@@ -173,13 +173,13 @@ module _ (c : Checked) (m : ℕ) (x : Refusal) where
   told_so r at e said = (exactly_number c (Wrote m) refl x r e).1 (at, said)
 
   -- at the host boundary, where what is written fits a slice
-  pub host_never_told : (r : ℕ) → (c ≡ Fine → m < 2 ^ 63) → Other (number x) c → r ≡ result (answered c (Wrote m)).outcome → r ≢ 2 ^ 63 + number x
+  pub host_never_told : (r : ℕ) → (c ≡ Fine → m < 2 ^ 63) → Other (number x) c → r ≡ result_of (answered c (Wrote m)).outcome → r ≢ 2 ^ 63 + number x
   host_never_told r few other e said =
       let n = host_number c (Wrote m) few (number x) r e said in
       never (sym (other n.0 n.1 n.3) ∙ ap (λ (k : ℕ). not (eqb k (number x))) n.2 ∙ itself (number x))
 
-  pub host_told_so : (r : ℕ) (at : Place) → r ≡ result (answered c (Wrote m)).outcome → c ≡ No x at → r ≡ 2 ^ 63 + number x
-  host_told_so r at e said = e ∙ ap (λ (k : Checked). result (answered k (Wrote m)).outcome) said
+  pub host_told_so : (r : ℕ) (at : Place) → r ≡ result_of (answered c (Wrote m)).outcome → c ≡ No x at → r ≡ 2 ^ 63 + number x
+  host_told_so r at e said = e ∙ ap (λ (k : Checked). result_of (answered k (Wrote m)).outcome) said
 
 -- what encoding and re-encoding write fits the lent slice
 module _ (b : List ℕ) (p : PcmSpec) (mode room : ℕ) (short : room < 2 ^ 63) where
@@ -353,6 +353,6 @@ pub room_unsaid : (p : PcmSpec) (mode : StereoMode) (s : List ℤ) (room : ℕ) 
 unfolding check_encode_into check_encode check_encoder every
 room_unsaid p mode s room enough =
     (only_other 50 _ _ (spec_says 8 _ p) refl and_says only_other 50 _ _ (samples_say p s) refl and_says late_other 50 p mode s refl)
-    Says-then (λ fine. let later = others_fine _ _ (others_fine _ _ fine) in
+    says_then (λ fine. let later = others_fine _ _ (others_fine _ _ fine) in
     let fits = file_most p mode s (first_fine _ _ later) (others_fine _ _ later) in
     fine_other 50 _ (pass _ OutputTooShort (le-ltb room (length (encoded_file p mode s)) (omega arith))))

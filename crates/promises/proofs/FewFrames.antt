@@ -16,7 +16,7 @@ use Rattle.format.specs.Opening.{check_open}
 use Rattle.format.specs.Decoding.{decoded_count, decode_of, decode_into}
 use Rattle.format.specs.Walking.{check_step}
 use Rattle.format.specs.FewFrames.{range_end, IsAsked, group_of, check_frames, frames_count, check_frames_into, frames_at, read_frames_of, read_frames_into, table_bytes, first_signature, first_flags, SameView}
-use Rattle.format.specs.Boundary.{sample_bytes, result, host_decode, host_decode_into, host_read_frames, host_read_frames_into}
+use Rattle.format.specs.Boundary.{sample_bytes, result_of, host_decode, host_decode_into, host_read_frames, host_read_frames_into}
 use Rattle.format.specs.Promises.{Decodes, ReadsFrames, HostDecodes, HostReadsFrames}
 use Rattle.format.specs.declared.refusals.Refusal.{Refusal}
 use Rattle.format.specs.declared.refusals.Place.{Place}
@@ -84,7 +84,7 @@ pub host_view_decides : (s t : List ℕ) (first count : Frames) (lent after afte
     → (r ≡ r') × (after ≡ after')
 unfolding host_read_frames
 host_view_decides s t first count lent after after' r r' v d e = (
-  d.0 ∙ ap (λ (a : Answer). result a.outcome) (says_same s t first count v _) ∙ sym e.0,
+  d.0 ∙ ap (λ (a : Answer). result_of a.outcome) (says_same s t first count v _) ∙ sym e.0,
   d.1 ∙ host_leaves_same s t first count v lent ∙ sym e.1,
 )
 
@@ -181,7 +181,7 @@ pub host_all_frames : (s lent after after' : List ℕ) (r r' : ℕ)
     → (r ≡ r') × (after ≡ after')
 unfolding host_read_frames host_read_frames_into read_frames_of host_decode host_decode_into decode_of
 host_all_frames s lent after after' r r' d e = (
-  d.0 ∙ ap (λ (c : Checked). result (answered c (Read (decoded_count s))).outcome) (all_checks s (length lent / 4)) ∙ sym e.0,
+  d.0 ∙ ap (λ (c : Checked). result_of (answered c (Read (decoded_count s))).outcome) (all_checks s (length lent / 4)) ∙ sym e.0,
   d.1 ∙ ap₂ (λ (c : Checked) (x : List ℤ). filled c (sample_bytes x) lent) (all_checks s (length lent / 4)) (frames_all s) ∙ sym e.1,
 )
 
@@ -238,5 +238,5 @@ host_range_past_end_exactly s first count lent after r short d =
     let c = check_frames_into s first count (length lent / 4) in
     let o = Read (frames_count s count) in (
       λ e. let x = host_number c o (frames_short s first count (length lent) short) 51 r d.0 e in past_so s first count (length lent / 4) x.0 x.1 x.2 x.3,
-      λ e. d.0 ∙ ap (λ (k : Checked). result (answered k o).outcome) (so_past s first count (length lent / 4) e.0 e.1),
+      λ e. d.0 ∙ ap (λ (k : Checked). result_of (answered k o).outcome) (so_past s first count (length lent / 4) e.0 e.1),
     )

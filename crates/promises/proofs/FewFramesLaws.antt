@@ -20,7 +20,7 @@ use Rattle.format.specs.Opening.{format_of, check_open}
 use Rattle.format.specs.Decoding.{check_group, check_decode, decoded_of, check_room}
 use Rattle.format.specs.Walking.{check_step}
 use Rattle.format.specs.FewFrames.{range_end, IsAsked, group_of, touched, check_frames, frames_count, check_frames_into, frames_at, read_frames_of, read_frames_into}
-use Rattle.format.specs.Boundary.{sample_bytes, result, host_read_frames, host_read_frames_into}
+use Rattle.format.specs.Boundary.{sample_bytes, result_of, host_read_frames, host_read_frames_into}
 use Rattle.format.specs.Promises.{Decodes, ReadsFrames, HostDecodes, HostReadsFrames}
 use Rattle.format.specs.declared.refusals.Refusal.{Refusal}
 use Rattle.format.specs.declared.refusals.Place.{Place}
@@ -93,7 +93,7 @@ pub host_range_reads : (s : List ℕ) (first count : Frames) (lent after : List 
 unfolding host_read_frames host_read_frames_into read_frames_of check_frames_into
 host_range_reads s first count lent after r room d fine =
     let e = room_passes (check_frames s first count) (length lent / 4) (frames_count s count).0 OutputTooShort (omega arith) ∙ fine in (
-      d.0 ∙ ap (λ (k : Checked). result (answered k (Read (frames_count s count))).outcome) e,
+      d.0 ∙ ap (λ (k : Checked). result_of (answered k (Read (frames_count s count))).outcome) e,
       d.1 ∙ ap (λ (k : Checked). filled k (sample_bytes (frames_at s first count)) lent) e,
     )
 

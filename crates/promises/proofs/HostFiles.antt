@@ -13,7 +13,7 @@ use Rattle.format.specs.Answers.{answered, filled, wrote}
 use Rattle.format.specs.Decoding.{check_decode, decoded_of, decoded_count, check_room, decode_of}
 use Rattle.format.specs.Encoding.{encoded_file, check_encode_into, encode_of, encode_into}
 use Rattle.format.specs.Reencoding.{check_reencode_into, reencoded_file, reencode_of, reencode_into}
-use Rattle.format.specs.Boundary.{samples_from, sample_bytes, mode_of, check_mode, check_bytes, result, host_decode, host_decode_into, check_host_encode, host_encode, host_encode_into, check_host_reencode, host_reencode, host_reencode_into}
+use Rattle.format.specs.Boundary.{samples_from, sample_bytes, mode_of, check_mode, check_bytes, result_of, host_decode, host_decode_into, check_host_encode, host_encode, host_encode_into, check_host_reencode, host_reencode, host_reencode_into}
 use Rattle.format.specs.Promises.{Encodes, Reencodes, HostDecodes, HostEncodes, HostReencodes}
 use Rattle.format.specs.declared.refusals.Checked.{Checked}
 use Rattle.format.specs.declared.refusals.Checked.TheVariants.{Fine}
@@ -30,7 +30,7 @@ unfolding check_bytes
 whole_samples b fine = eqb-true (length b % 4) 0 (not-false _ (passed _ _ fine))
 
 -- a length is told where nothing was refused: then any checks k that pass answer it too, and leave the same
-told_wrote : (c k : Checked) (m n : ℕ) (w lent file : List ℕ) → n < 2 ^ 63 → n ≡ result (answered c (Wrote m)).outcome → file ≡ filled c w lent → k ≡ Fine
+told_wrote : (c k : Checked) (m n : ℕ) (w lent file : List ℕ) → n < 2 ^ 63 → n ≡ result_of (answered c (Wrote m)).outcome → file ≡ filled c w lent → k ≡ Fine
     → (wrote n ≡ answered k (Wrote m)) × (file ≡ filled k w lent)
 told_wrote c k m n w lent file short e p fine = (
   ap wrote (host_length c (Wrote m) n e short) ∙ ap (λ (x : Checked). answered x (Wrote m)) (sym fine),

@@ -21,7 +21,7 @@ use Rattle.format.specs.Answers.{answered}
 use Rattle.format.specs.Opening.{check_open}
 use Rattle.format.specs.Decoding.{check_decode, decoded_count, check_room, decode_of}
 use Rattle.format.specs.Reencoding.{check_reencode_into}
-use Rattle.format.specs.Boundary.{samples_from, check_bytes, result, host_decode, check_host_reencode, host_reencode}
+use Rattle.format.specs.Boundary.{samples_from, check_bytes, result_of, host_decode, check_host_reencode, host_reencode}
 use Rattle.format.specs.Boundary.{misfit_told, refusal_word, host_decode_refusal, host_reencode_refusal}
 use Rattle.format.specs.Promises.{HostDecodes, HostReencodes, HostDecodeRefuses, HostReencodeRefuses}
 use Rattle.format.specs.declared.refusals.Refusal.{Refusal}
@@ -114,7 +114,7 @@ number_byte : (x : Refusal) → number x < 256
 number_byte x = ltb-true (number x) 256 (and_right (ltb 0 (number x)) _ (known x).0)
 
 -- ---- from the checks c, and the outcome o of success
-word_tells : (c : Checked) (o : Outcome) → (c ≡ Fine → result o < 2 ^ 63) → (r word : ℕ) → r ≡ result (answered c o).outcome → word ≡ refusal_word c → WordTells r word
+word_tells : (c : Checked) (o : Outcome) → (c ≡ Fine → result_of o < 2 ^ 63) → (r word : ℕ) → r ≡ result_of (answered c o).outcome → word ≡ refusal_word c → WordTells r word
 word_tells Fine o few r word e w = let l = few refl in record { nothing = (λ q. omega arith, λ q. w); the_number = λ q. absurd (omega arith) }
 word_tells (No x at) o few r word e w =
     let a = number_some x in

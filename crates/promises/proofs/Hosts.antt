@@ -16,7 +16,7 @@ use Rattle.format.specs.Opening.{header_of, open_of}
 use Rattle.format.specs.Decoding.{check_decode, decoded_of}
 use Rattle.format.specs.Encoding.{encoded_file, check_encoder, check_samples, check_encode, check_encode_into}
 use Rattle.format.specs.Reencoding.{reencoded_file}
-use Rattle.format.specs.Boundary.{samples_from, is_mode, mode_of, check_mode, check_bytes, result, host_open, check_host_encode, host_encode, host_reencode_refusal}
+use Rattle.format.specs.Boundary.{samples_from, is_mode, mode_of, check_mode, check_bytes, result_of, host_open, check_host_encode, host_encode, host_reencode_refusal}
 use Rattle.format.specs.Promises.{HostOpens, HostDecodes, HostEncodes, HostReencodes, HostReencodeRefuses}
 use Rattle.format.specs.declared.refusals.Refusal.TheVariants.{OutputTooShort}
 use Rattle.format.specs.declared.refusals.Checked.{Checked}
@@ -73,9 +73,9 @@ host_parity_exactly b p lent after r two whole short e =
     let c = check_encode_into p MidSide s (length lent) in
     let inner : check_host_encode b p 2 (length lent) ≡ c = pass _ _ refl and_then pass _ _ (ap not (eq-eqb (length b % 4) 0 whole)) and_then refl in
     let few : c ≡ Fine → length file < 2 ^ 63 = λ fine. let l = has_room (check_encode p MidSide s) (length lent) (length file) OutputTooShort fine in omega arith in
-    let told = e.0 ∙ ap (λ (k : Checked). result (answered k (Wrote (length file))).outcome) inner in (
+    let told = e.0 ∙ ap (λ (k : Checked). result_of (answered k (Wrote (length file))).outcome) inner in (
       λ q. let x = host_number c (Wrote (length file)) few 35 r told q in parity_some p s two (length lent) x.0 x.1 x.2 x.3,
-      λ q. told ∙ ap (λ (k : Checked). result (answered k (Wrote (length file))).outcome) (some_parity p s two (length lent) q.0 q.1).1,
+      λ q. told ∙ ap (λ (k : Checked). result_of (answered k (Wrote (length file))).outcome) (some_parity p s two (length lent) q.0 q.1).1,
     )
 
 -- ---- 3. LAW ONE: the new file decodes to the samples
@@ -159,7 +159,7 @@ host_templates b p t lent file n e short =
     let fine = Refile.template_decodes p s t ok in
     let count = bytes_count b (reencode_whole b p t lent n file e short) in
     let long = Refile.template_count p s t ok in (
-      λ r o. o ∙ ap (λ (c : Checked). result (answered c (Opened (header_of t))).outcome) (first_fine _ _ fine)
+      λ r o. o ∙ ap (λ (c : Checked). result_of (answered c (Opened (header_of t))).outcome) (first_fine _ _ fine)
           ∙ ap (λ (k : ℕ). 4 * k) (decode_count t fine ∙ long) ∙ count,
       λ out after r room d. (host_decodes_to t (decoded_of t) out after r fine refl (omega arith) d).0 ∙ ap (λ (k : ℕ). 4 * k) long ∙ count,
     )

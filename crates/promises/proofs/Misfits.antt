@@ -108,7 +108,7 @@ module _ (depth : ℕ) (r : List ℕ) (xs : List ℤ) (k : ℕ) where
   block_fresh fine f d l =
       let b = width_of coded in
       let known = (template_told depth r fine).within in
-      lt_of_not_le (λ (p : fresh coded (length xs) ≤ k).
+      lt_of_not-le (λ (p : fresh coded (length xs) ≤ k).
       let held = stays_held (base_of r) (drop 16 r) xs l coded known (width_some depth (bits_of r) d known) k p in
       never (sym (lt-ltb (mag (get_or (values_for depth r xs) k (pos 0))) (2 ^ (b - 1)) held) ∙ f.fails))
 

@@ -23,7 +23,7 @@ use Rattle.format.specs.declared.answers.Outcome.{Outcome}
 use Rattle.format.specs.declared.answers.Outcome.TheVariants.{Opened, Read, Finished, Wrote, Refused, Matches, Differs}
 use Rattle.format.specs.declared.answers.Answer.{Answer}
 use Rattle.laws.proofs.Tests.{never}
-use Rattle.format.specs.Boundary.{sample_bytes, result, host_decode, host_decode_into}
+use Rattle.format.specs.Boundary.{sample_bytes, result_of, host_decode, host_decode_into}
 use Rattle.format.specs.Promises.{Decodes, HostDecodes}
 use Rattle.laws.proofs.Checks.{pass, ◌and_then◌, first_fine}
 use Rattle.laws.proofs.Lengths.{decode_count}
@@ -157,32 +157,32 @@ pub host_decodes_to : (f : List ℕ) (s : List ℤ) (out after : List ℕ) (r : 
     → (r ≡ 4 * length s) × (after ≡ over (sample_bytes s) out)
 unfolding host_decode host_decode_into
 host_decodes_to f s out after r fine gives room d = (
-  d.0 ∙ ap (λ (a : Answer). result a.outcome) (reads_all f s fine gives (length out / 4) room),
+  d.0 ∙ ap (λ (a : Answer). result_of a.outcome) (reads_all f s fine gives (length out / 4) room),
   d.1 ∙ ap₂ (λ (c : Checked) (w : List ℤ). filled c (sample_bytes w) out) (all_fine f s fine gives (length out / 4) room) gives,
 )
 
 -- ---- at the host boundary a refusal is a number from 2 ^ 63 on, and a length below it: no slice is as long as that
 module _ (c : Checked) (o : Outcome) where
-  pub host_fine : (n : ℕ) → n ≡ result (answered c o).outcome → n < 2 ^ 63 → c ≡ Fine
+  pub host_fine : (n : ℕ) → n ≡ result_of (answered c o).outcome → n < 2 ^ 63 → c ≡ Fine
   host_fine n = by c
     where
-      by : (k : Checked) → n ≡ result (answered k o).outcome → n < 2 ^ 63 → k ≡ Fine
+      by : (k : Checked) → n ≡ result_of (answered k o).outcome → n < 2 ^ 63 → k ≡ Fine
       by Fine e l = refl
       by (No r at) e l = absurd (omega arith)
 
-  pub host_length : (n : ℕ) → n ≡ result (answered c o).outcome → n < 2 ^ 63 → n ≡ result o
-  host_length n e l = e ∙ ap (λ (k : Checked). result (answered k o).outcome) (host_fine n e l)
+  pub host_length : (n : ℕ) → n ≡ result_of (answered c o).outcome → n < 2 ^ 63 → n ≡ result_of o
+  host_length n e l = e ∙ ap (λ (k : Checked). result_of (answered k o).outcome) (host_fine n e l)
 
-  pub host_refused : (c ≡ Fine → result o < 2 ^ 63) → 2 ^ 63 ≤ result (answered c o).outcome → (r : Refusal) × (at : Place) × (c ≡ No r at)
+  pub host_refused : (c ≡ Fine → result_of o < 2 ^ 63) → 2 ^ 63 ≤ result_of (answered c o).outcome → (r : Refusal) × (at : Place) × (c ≡ No r at)
   host_refused = by c
     where
-      by : (k : Checked) → (k ≡ Fine → result o < 2 ^ 63) → 2 ^ 63 ≤ result (answered k o).outcome → (r : Refusal) × (at : Place) × (k ≡ No r at)
+      by : (k : Checked) → (k ≡ Fine → result_of o < 2 ^ 63) → 2 ^ 63 ≤ result_of (answered k o).outcome → (r : Refusal) × (at : Place) × (k ≡ No r at)
       by Fine few l = let q = few refl in absurd (omega arith)
       by (No r at) few l = (r, at, refl)
 
   -- the number says by which the checks refuse
-  pub host_number : (c ≡ Fine → result o < 2 ^ 63) → (n r : ℕ) → r ≡ result (answered c o).outcome → r ≡ 2 ^ 63 + n → (x : Refusal) × (at : Place) × (number x ≡ n) × (c ≡ No x at)
+  pub host_number : (c ≡ Fine → result_of o < 2 ^ 63) → (n r : ℕ) → r ≡ result_of (answered c o).outcome → r ≡ 2 ^ 63 + n → (x : Refusal) × (at : Place) × (number x ≡ n) × (c ≡ No x at)
   host_number few n r e q =
       let x = host_refused few (omega arith) in
-      let t : r ≡ 2 ^ 63 + number x.0 = e ∙ ap (λ (k : Checked). result (answered k o).outcome) x.2 in
+      let t : r ≡ 2 ^ 63 + number x.0 = e ∙ ap (λ (k : Checked). result_of (answered k o).outcome) x.2 in
       (x.0, x.1, omega arith, x.2)

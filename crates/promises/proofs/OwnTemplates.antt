@@ -20,7 +20,7 @@ use Rattle.format.specs.Opening.{check_offsets}
 use Rattle.format.specs.Decoding.{decoded_of}
 use Rattle.format.specs.Encoding.{padded_channels, blocks, mid_side, takes_mid, encoded_group, encoded_group_at, group_in, encoded_file, check_encode, frames_of}
 use Rattle.format.specs.Reencoding.{check_reencode_group, check_same, check_bounds, check_rising, check_template, check_reencoder, check_reencode, check_reencode_into, reencoded_file, reencode_of, reencode_into}
-use Rattle.format.specs.Boundary.{samples_from, mode_of, result, check_bytes, check_host_reencode, host_reencode, host_reencode_into}
+use Rattle.format.specs.Boundary.{samples_from, mode_of, result_of, check_bytes, check_host_reencode, host_reencode, host_reencode_into}
 use Rattle.format.specs.Promises.{Encodes, Reencodes, HostEncodes, HostReencodes}
 use Rattle.format.specs.declared.refusals.Refusal.TheVariants.{SampleBytes}
 use Rattle.format.specs.declared.refusals.Checked.{Checked}
@@ -225,6 +225,6 @@ host_own_template b p mode lent file n room after r rate taken e short enough q 
     let whole = pass _ SampleBytes (ap not (eq-eqb (length b % 4) 0 (encode_whole b p mode lent n file e short))) in
     let inner : check_host_reencode b p t (length room) ≡ check_reencode_into p s t (length room) = whole and_then refl in
     let own = own_template p (mode_of mode) s lent file n room _ _ rate taken i enough (refl, refl) in (
-      q.0 ∙ ap (λ (c : Checked). result (answered c (Wrote (length t))).outcome) inner ∙ ap (λ (a : Answer). result a.outcome) own.0,
+      q.0 ∙ ap (λ (c : Checked). result_of (answered c (Wrote (length t))).outcome) inner ∙ ap (λ (a : Answer). result_of a.outcome) own.0,
       q.1 ∙ ap (λ (c : Checked). filled c (reencoded_file s t) room) inner ∙ own.1,
     )

@@ -71,15 +71,15 @@ module _ (s : List ℤ) (frames : Frames) (l : length s ≡ 2 * frames.0) (g : �
   abbrev chans : List (List ℤ)
   chans = unwoven 2 (group_in 2 s g)
 
-  in_group : (c i : ℕ) → c < 2 → i < k → get_or (group_in 2 s g) (i * 2 + c) (pos 0) ≡ get_or s ((512 * g + i) * 2 + c) (pos 0)
+  in_group_lem : (c i : ℕ) → c < 2 → i < k → get_or (group_in 2 s g) (i * 2 + c) (pos 0) ≡ get_or s ((512 * g + i) * 2 + c) (pos 0)
   unfolding group_in from active
-  in_group c i q p =
+  in_group_lem c i q p =
       let e : 1024 * g + (i * 2 + c) ≡ (512 * g + i) * 2 + c = omega arith in
-      get_or_take 1024 (drop (1024 * g) s) (i * 2 + c) (pos 0) (omega arith) ∙ get_or-drop (1024 * g) s (i * 2 + c) (pos 0) ∙ ap (λ (x : ℕ). get_or s x (pos 0)) e
+      get_or-take 1024 (drop (1024 * g) s) (i * 2 + c) (pos 0) (omega arith) ∙ get_or-drop (1024 * g) s (i * 2 + c) (pos 0) ∙ ap (λ (x : ℕ). get_or s x (pos 0)) e
 
   -- sample i of its channel c is a sample of the list
   sample_at : (c i : ℕ) → c < 2 → i < k → get_or (get_or chans c []) i (pos 0) ≡ get_or s ((512 * g + i) * 2 + c) (pos 0)
-  sample_at c i q p = unwoven_at 2 k (omega arith) (group_in 2 s g) (group_length 2 frames s l g) c i q p ∙ in_group c i q p
+  sample_at c i q p = unwoven_at 2 k (omega arith) (group_in 2 s g) (group_length 2 frames s l g) c i q p ∙ in_group_lem c i q p
 
   long : (c : ℕ) → c < 2 → length (get_or chans c []) ≡ k
   long = unwoven_long 2 k (omega arith) (group_in 2 s g) (group_length 2 frames s l g)

@@ -24,7 +24,7 @@ use Rattle.format.specs.Answers.{answered_by, refused_by, answered, read, wrote}
 use Rattle.format.specs.Opening.{format_of}
 use Rattle.format.specs.Decoding.{is_float, channels_of, check_decode, decoded_of}
 use Rattle.format.specs.Peaks.{peak_at, summary_of, check_peaks, check_peaks_into, verdict, compare_peaks_of, build_peaks_of, summary_frames, summary_channels, pair_count, pair_number, from_pair, pair_of, check_two, check_pair, check_summary, check_peak, check_all_peaks, read_peak_of, read_peaks_of, pairs_read}
-use Rattle.format.specs.Boundary.{sample_bytes, result, host_peaks, host_peak, host_peaks_all, host_peaks_check}
+use Rattle.format.specs.Boundary.{sample_bytes, result_of, host_peaks, host_peak, host_peaks_all, host_peaks_check}
 use Rattle.format.specs.Promises.{Decodes, BuildsPeaks, ComparesPeaks, ReadsPeak, ReadsPeaks, HostBuildsPeaks, HostComparesPeaks, HostReadsPeak, HostReadsPeaks}
 use Rattle.format.specs.declared.refusals.Refusal.{Refusal}
 use Rattle.format.specs.declared.refusals.Refusal.TheVariants.{ZeroChannels, OutputTooShort, BytesBehind, PeaksCrossed, FloatFile, PairPastEnd}
@@ -194,7 +194,7 @@ pub host_check_says_yes : (b s : List ℕ) (r : ℕ)
 unfolding host_peaks_check
 host_check_says_yes b s r e = (
   λ q. let v = host_verdict b s r e 1 q (omega arith) in (v.0, same_equal b (summary_of s) (by_result (same b (summary_of s)) v.1)),
-  λ q. e ∙ ap (λ (a : Answer). result a.outcome) ((check_says_yes b s (compare_peaks_of b s) refl).1 q),
+  λ q. e ∙ ap (λ (a : Answer). result_of a.outcome) ((check_says_yes b s (compare_peaks_of b s) refl).1 q),
 )
 
 pub host_check_says_no : (b s : List ℕ) (r : ℕ)
@@ -203,7 +203,7 @@ pub host_check_says_no : (b s : List ℕ) (r : ℕ)
 unfolding host_peaks_check
 host_check_says_no b s r e = (
   λ q. ((host_verdict b s r e 0 q (omega arith)).0, λ w. let one = (host_check_says_yes b s r e).1 ((host_verdict b s r e 0 q (omega arith)).0, w) in omega arith),
-  λ q. e ∙ ap (λ (a : Answer). result a.outcome) ((check_says_no b s (compare_peaks_of b s) refl).1 q),
+  λ q. e ∙ ap (λ (a : Answer). result_of a.outcome) ((check_says_no b s (compare_peaks_of b s) refl).1 q),
 )
 
 -- what building wrote gets a 1 there, and nothing else does
@@ -378,7 +378,7 @@ host_float_file_exactly s lent after r short d =
       λ e.
           let x = host_number c o (build_short s (length lent) short) 66 r d.0 e in
           float_so s x.0 x.1 x.2 (built_other s (length lent) x.0 x.1 (ap (eqb 50) x.2) x.3),
-      λ e. d.0 ∙ ap (λ (k : Checked). result (answered k o).outcome) (other_built s (length lent) FloatFile nowhere (so_float s e.0 e.1)),
+      λ e. d.0 ∙ ap (λ (k : Checked). result_of (answered k o).outcome) (other_built s (length lent) FloatFile nowhere (so_float s e.0 e.1)),
     )
 
 pub host_check_float_file_exactly : (b s : List ℕ) (r : ℕ)
@@ -388,7 +388,7 @@ unfolding host_peaks_check compare_peaks_of
 host_check_float_file_exactly b s r d =
     let o = verdict (same b (summary_of s)) in (
       λ e. let x = host_number (check_peaks s) o (λ q. verdict_small (same b (summary_of s))) 66 r d e in float_so s x.0 x.1 x.2 x.3,
-      λ e. d ∙ ap (λ (k : Checked). result (answered k o).outcome) (so_float s e.0 e.1),
+      λ e. d ∙ ap (λ (k : Checked). result_of (answered k o).outcome) (so_float s e.0 e.1),
     )
 
 pub host_pair_past_end_exactly : (s : List ℕ) (g c : ℕ) (lent after : List ℕ) (r : ℕ)
@@ -399,7 +399,7 @@ host_pair_past_end_exactly s g c lent after r d =
     let k = check_peak s g c (length lent / 4) in
     let o = Read (pairs_read 1) in (
       λ e. let x = host_number k o (λ q. omega arith) 67 r d.0 e in pair_past_so s g c (length lent / 4) x.0 x.1 x.2 x.3,
-      λ e. d.0 ∙ ap (λ (y : Checked). result (answered y o).outcome) (so_pair_past s g c (length lent / 4) e.0 e.1),
+      λ e. d.0 ∙ ap (λ (y : Checked). result_of (answered y o).outcome) (so_pair_past s g c (length lent / 4) e.0 e.1),
     )
 
 -- ---- WHAT NO SUMMARY IS: 10, 63, 64, AND 60 TO 62
@@ -492,4 +492,4 @@ pub host_summary_is_room : (s lent after : List ℕ) (r : ℕ)
 unfolding host_peaks_all read_peaks_of check_all_peaks
 host_summary_is_room s lent after r fine room d =
     let e = room_enough (check_summary s) fine (length lent / 4) (2 * pair_count s) OutputTooShort (omega (arith, pairs_within s fine)) in
-    d.0 ∙ ap (λ (k : Checked). result (answered k (Read (pairs_read (pair_count s)))).outcome) e
+    d.0 ∙ ap (λ (k : Checked). result_of (answered k (Read (pairs_read (pair_count s)))).outcome) e

@@ -27,7 +27,7 @@ use Rattle.format.specs.Opening.{format_of, check_open}
 use Rattle.format.specs.Decoding.{is_float, check_group, coded, channels_of, check_decode, decoded_of}
 use Rattle.format.specs.FewFrames.{group_of, frame_at, frames_at}
 use Rattle.format.specs.Answers.{answered_by, answered, filled, read, wrote}
-use Rattle.format.specs.Boundary.{sample_bytes, result, host_peaks, host_peak, host_peak_into, host_peaks_all, host_peaks_all_into}
+use Rattle.format.specs.Boundary.{sample_bytes, result_of, host_peaks, host_peak, host_peak_into, host_peaks_all, host_peaks_all_into}
 use Rattle.format.specs.Promises.{BuildsPeaks, ReadsPeak, ReadsPeaks, HostBuildsPeaks, HostReadsPeak, HostReadsPeaks}
 use Rattle.format.specs.Peaks.{build_peaks_of, build_peaks_into, verdict, compare_peaks_of, pair_number, pair_samples, pairs_from, read_peak_of, read_peak_into, read_peaks_of, read_peaks_into, channel_peak, peak_at, summary_of, check_peaks, check_peaks_into, check_peak, check_all_peaks, pairs_read, summary_frames, summary_channels, pair_count, from_pair, pair_of, check_summary}
 use Rattle.format.specs.declared.refusals.Refusal.{Refusal}
@@ -332,7 +332,7 @@ pub host_pair_reads : (s : List ℕ) (g c : ℕ) (lent after : List ℕ) (r : �
 unfolding host_peak host_peak_into read_peak_of
 host_pair_reads s g c lent after r d fine l m room =
     let e = within_checks s g c l m (length lent / 4) ∙ room_enough (check_summary s) fine (length lent / 4) 2 OutputTooShort (omega arith) in (
-      d.0 ∙ ap (λ (k : Checked). result (answered k (Read (pairs_read 1))).outcome) e,
+      d.0 ∙ ap (λ (k : Checked). result_of (answered k (Read (pairs_read 1))).outcome) e,
       d.1 ∙ ap (λ (k : Checked). filled k (sample_bytes (pairs_from s (pair_number s g c) 1)) lent) e ∙ ap (λ (x : List ℤ). over (sample_bytes x) lent) (pairs_one s (pair_number s g c)),
     )
 
@@ -373,11 +373,11 @@ host_built s out built n d short =
     (first_fine _ _ fine, written_front k n (summary_of s) out built fine (host_length k o n d.0 short) d.1)
 
 -- ---- the verdict
-pub by_result : (b : Bool) → result (verdict b) ≡ 1 → b ≡ true
+pub by_result : (b : Bool) → result_of (verdict b) ≡ 1 → b ≡ true
 by_result true e = refl
 by_result false e = absurd (omega arith)
 
-pub verdict_small : (b : Bool) → result (verdict b) < 2 ^ 63
+pub verdict_small : (b : Bool) → result_of (verdict b) < 2 ^ 63
 verdict_small true = omega arith
 verdict_small false = omega arith
 
@@ -405,15 +405,15 @@ module _ (b s : List ℕ) where
   said_as o success e = succeeds_as (check_peaks s) (verdict equal) o success e
 
   pub said_yes : answered_by Matches ≡ compare_peaks_of b s → same b (summary_of s) ≡ true
-  said_yes e = by_result equal (sym (ap result (said_as Matches refl e)))
+  said_yes e = by_result equal (sym (ap result_of (said_as Matches refl e)))
 
   pub said_no : answered_by Differs ≡ compare_peaks_of b s → b ≡ summary_of s → ⊥
   said_no e q =
       let yes : equal ≡ true = ap (λ (x : List ℕ). same x (summary_of s)) q ∙ same_itself (summary_of s) in
-      let z : ◌≡◌ {A = ℕ} 0 1 = ap result (said_as Differs refl e ∙ ap verdict yes) in
+      let z : ◌≡◌ {A = ℕ} 0 1 = ap result_of (said_as Differs refl e ∙ ap verdict yes) in
       omega arith
 
-  pub host_verdict : (r : ℕ) → r ≡ result (compare_peaks_of b s).outcome → (n : ℕ) → r ≡ n → n < 2 ^ 63 → (check_peaks s ≡ Fine) × (result (verdict (same b (summary_of s))) ≡ n)
+  pub host_verdict : (r : ℕ) → r ≡ result_of (compare_peaks_of b s).outcome → (n : ℕ) → r ≡ n → n < 2 ^ 63 → (check_peaks s ≡ Fine) × (result_of (verdict (same b (summary_of s))) ≡ n)
   unfolding compare_peaks_of
   host_verdict r e n q l = (host_fine (check_peaks s) (verdict equal) r e (omega arith), sym (host_length (check_peaks s) (verdict equal) r e (omega arith)) ∙ q)
 

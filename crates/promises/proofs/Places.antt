@@ -169,8 +169,8 @@ module _ (before inner : Checked) (b : Bool) where
   module _ (groups channels : ℕ) where
     by_table : Says (Outer groups channels) before → (before ≡ Fine → Says (Inner groups channels) inner) → Says (ByTable before groups channels) whole
     by_table p q =
-        ((λ r at e. Before e (p r at e)) Says-then (λ fine r at e. InGroup fine (q fine r at e).0 (q fine r at e).1))
-        Says-then (λ fine. says_refuse (ByTable before groups channels) b OutputTooShort (NoRoom (first_fine before inner fine) refl refl))
+        ((λ r at e. Before e (p r at e)) says_then (λ fine r at e. InGroup fine (q fine r at e).0 (q fine r at e).1))
+        says_then (λ fine. says_refuse (ByTable before groups channels) b OutputTooShort (NoRoom (first_fine before inner fine) refl refl))
 
 -- ---- a number that the table does not list
 unlisted : (a b : Named) (t : Bool) → not t ≡ true → cond t a b ≡ b

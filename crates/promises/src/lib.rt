@@ -1,1 +1,2 @@
 // The demands, each one theorem with a name: proofs/.
+#![tactic(auto)]

@@ -1,4 +1,6 @@
 // Decoding: reader.rs of the Rust. Every refusal is found first; then samples are put.
+#![tactic(auto)]
+
 mod checking;
 
 ghost use Rattle.std.specs.Prelude.{◌≡◌};

@@ -81,6 +81,13 @@ module _ (depth : ℕ) (r : List ℕ) (xs : List ℤ) where
           unfolding refuse ◌then◌
           fit_says l vs v d wide c says = rw (← others, known, ← size, le-ltb (length r) n l, ← v, ← wide) says
 
+-- past the arm of a block beyond its coding's widths
+pub known_past : (k : Coding) → (k ≡ Beyond → ⊥) → is_beyond k ≡ false
+unfolding is_beyond
+known_past (Differences w) other = refl
+known_past (Raw w) other = refl
+known_past Beyond other = absurd (other refl)
+
 -- the coding by the header that was read
 pub coding_known : (depth : ℕ) (r : List ℕ) (b : BlockHeader) → b ≡ block_header r → SFits w16 b.bits → (k : Coding) → k ≡ coding depth (to_z w16 (of_z w16 b.bits)) → is_beyond k ≡ false
     → is_beyond (coding_of depth r) ≡ false

@@ -1,4 +1,6 @@
 // A template's block with new samples: what is packed and what stays, its checks, and its bytes.
+#![tactic(auto)]
+
 ghost use Rattle.std.specs.Prelude.{◌≡◌, [], ◌∷◌, ◌++◌, ◌<◌, ◌≤◌, length, take, drop};
 ghost use Rattle.format.specs.Lists.{from, over};
 ghost use Rattle.format.specs.Blocks.{coding_of, size_of};

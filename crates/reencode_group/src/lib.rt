@@ -1,4 +1,6 @@
 // A template's group with new samples: its checks, and its blocks, each written into its own part.
+#![tactic(auto)]
+
 ghost use Rattle.std.specs.Prelude.{◌≡◌, not, List, [], ℕ, ◌+◌, ◌<◌, ◌≤◌, eqb, length, get_or, take};
 ghost use Rattle.format.specs.Lists.{over, joined};
 ghost use Rattle.format.specs.Blocks.{mid_bit, from_block};
@@ -139,7 +141,7 @@ pub fn reencode_group(
     bs: &[u8],
 )
     requires given { Given p first n (lent_of which words.now bytes.now) }
-    requires fact { let frames = frames_from p.channels first n (lent_of which words.now bytes.now) in
+    requires accepted { let frames = frames_from p.channels first n (lent_of which words.now bytes.now) in
         (check_reencode_group p.bits_per_sample p.channels bs.now frames ≡ Fine)
         × (length bs.now ≤ length out.old) }
     ensures { let lent = lent_of which words.now bytes.now in

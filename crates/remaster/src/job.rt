@@ -6,6 +6,7 @@ use crate::text::{print_count, print_done};
 use format::{Header, Outcome};
 use remaster_job::{Kept, ReadBack, Report, Restored, Rewritten};
 use report::{print, print_opened};
+use std::io;
 
 // The most samples that are taken.
 const MOST_SAMPLES: usize = 131072;
@@ -17,82 +18,85 @@ fn room() -> [i32; MOST_SAMPLES]
 }
 
 // This and the next say whether there was no refusal.
-fn print_restored(restored: Restored) -> bool {
-    if print_done(restored.answer) {} else {
-        return false;
+fn print_restored(rt: &impl Print, restored: Restored) -> io::Result<bool> {
+    if !print_done(rt, restored.answer)? {
+        return Ok(false);
     }
     if restored.is_itself {
-        print(b", the file itself\n");
+        print(rt, b", the file itself\n")?;
     } else {
-        print(b", another file\n");
+        print(rt, b", another file\n")?;
     }
-    true
+    Ok(true)
 }
 
-fn print_rewritten(rewritten: Rewritten) -> bool {
-    print(b"re-encode with its own samples: ");
-    if print_restored(rewritten.restored) {} else {
-        return false;
+fn print_rewritten(rt: &impl Print, rewritten: Rewritten) -> io::Result<bool> {
+    print(rt, b"re-encode with its own samples: ")?;
+    if !print_restored(rt, rewritten.restored)? {
+        return Ok(false);
     }
-    print(b"re-encode with every sample halved, parity kept: ");
-    print_done(rewritten.written)
+    print(rt, b"re-encode with every sample halved, parity kept: ")?;
+    print_done(rt, rewritten.written)
 }
 
 // What of the file is the same in what was written with the halved samples.
-fn print_kept(kept: Kept) {
-    print(b", ");
-    print_count(kept.all);
-    print(b" as before\nkept: ");
-    print_count(kept.before);
-    print(b" bytes before the data, ");
-    print_count(kept.headers);
-    print(b" block headers but for the base of differences, ");
-    print_count(kept.behind);
-    print(b" bytes behind the data\n");
+fn print_kept(rt: &impl Print, kept: Kept) -> io::Result<()> {
+    print(rt, b", ")?;
+    print_count(rt, kept.all)?;
+    print(rt, b" as before\nkept: ")?;
+    print_count(rt, kept.before)?;
+    print(rt, b" bytes before the data, ")?;
+    print_count(rt, kept.headers)?;
+    print(rt, b" block headers but for the base of differences, ")?;
+    print_count(rt, kept.behind)?;
+    print(rt, b" bytes behind the data\n")
 }
 
 // What is found in what was written.
-fn print_back(back: ReadBack) {
-    print(b"open what was written: ");
-    print_opened(back.opened, b", ");
-    print(b"decode what was written: ");
-    if print_done(back.decoded) {} else {
-        return;
+fn print_back(rt: &impl Print, back: ReadBack) -> io::Result<()> {
+    print(rt, b"open what was written: ")?;
+    print_opened(rt, back.opened, b", ")?;
+    print(rt, b"decode what was written: ")?;
+    if !print_done(rt, back.decoded)? {
+        return Ok(());
     }
-    print(b", ");
-    print_count(back.halves);
-    print(b" the halved ones\nre-encode what was written with the file's own samples: ");
-    print_restored(back.restored);
+    print(rt, b", ")?;
+    print_count(rt, back.halves)?;
+    print(
+        rt,
+        b" the halved ones\nre-encode what was written with the file's own samples: ",
+    )?;
+    print_restored(rt, back.restored)?;
+    Ok(())
 }
 
-fn print_report(report: Report) {
+fn print_report(rt: &impl Print, report: Report) -> io::Result<()> {
     let rewritten = report.rewritten;
-    print(b"decode: ");
-    if print_done(report.decoded) {} else {
-        return;
+    print(rt, b"decode: ")?;
+    if !print_done(rt, report.decoded)? {
+        return Ok(());
     }
-    print(b"\n");
-    if print_rewritten(rewritten) {} else {
-        return;
+    print(rt, b"\n")?;
+    if !print_rewritten(rt, rewritten)? {
+        return Ok(());
     }
-    print_kept(rewritten.kept);
-    print_back(report.back);
+    print_kept(rt, rewritten.kept)?;
+    print_back(rt, report.back)
 }
 
 // The job on a file that opens, with as much room as its samples ask for.
-fn run_opened(file: &[u8], h: Header, out: &mut [u8]) {
+fn run_opened(rt: &impl Print, file: &[u8], h: Header, out: &mut [u8]) -> io::Result<()> {
     let frames = h.frames;
     let samples = frames.samples(h.channels);
     let n = samples.0 as usize;
     if MOST_SAMPLES < n {
-        print(b"too large\n");
-        return;
+        return print(rt, b"too large\n");
     }
     let mut old = room();
     let mut new = room();
     let mut read = room();
-    let mut again = io::large_buffer();
-    print_report(remaster_job::job(
+    let mut again = [0u8; MOST_BYTES];
+    let report = remaster_job::job(
         file,
         h,
         &mut old[..n],
@@ -100,22 +104,23 @@ fn run_opened(file: &[u8], h: Header, out: &mut [u8]) {
         out,
         &mut read,
         &mut again,
-    ));
+    );
+    print_report(rt, report)
 }
 
 // Does the job on a file and prints its report.
-pub fn run(file: &[u8]) {
-    let mut out = io::large_buffer();
+pub fn run(rt: &impl Print, file: &[u8]) -> io::Result<()> {
+    let mut out = [0u8; MOST_BYTES];
     let n = file.len();
     if MOST_BYTES < n {
-        print(b"too large\n");
-        return;
+        return print(rt, b"too large\n");
     }
-    print(b"open: ");
+    print(rt, b"open: ")?;
     let answer = opening::open(file);
-    print_opened(answer, b", ");
+    print_opened(rt, answer, b", ")?;
     let outcome = answer.outcome;
     if let Outcome::Opened(h) = outcome {
-        run_opened(file, h, &mut out[..n]);
+        return run_opened(rt, file, h, &mut out[..n]);
     }
+    Ok(())
 }

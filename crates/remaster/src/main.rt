@@ -1,10 +1,13 @@
 // The main job on the file that the first argument names: open, decode, re-encode with the file as template, compare.
+#![tactic(auto)]
+
 mod job;
 mod text;
 
 ghost use Rattle.std.specs.Prelude.{◌≡◌, replicate};
 
-use libc::STDERR_FILENO;
+use std::fs::File;
+use std::{env, io};
 
 // The largest file that is taken.
 pub const MOST_BYTES: usize = 65536;
@@ -16,24 +19,18 @@ fn buffer() -> [u8; MOST_BYTES + 1]
     [0; MOST_BYTES + 1]
 }
 
-fn run(fd: i32) {
+fn run(rt: &HostRuntime, mut input: File) -> io::Result<()> {
     let mut file = buffer();
-    let n = io::read_full(fd, &mut file);
-    job::run(&file[..n]);
+    let n = intake::read_full(&mut input, &mut file)?;
+    job::run(rt, &file[..n])
 }
 
-fn main() {
-    let mut path = io::buffer();
-    let n = os::arg(1, &mut path);
-    if os::errno() != 0 {
-        io::write_all(STDERR_FILENO, b"usage: remaster FILE\n");
-        return;
+fn main(rt: HostRuntime) -> io::Result<()> {
+    let Some(path) = env::args(&rt)?.nth(1) else {
+        return rt.eprintln("usage: remaster FILE");
+    };
+    match File::open(&rt, &path) {
+        Ok(file) => run(&rt, file),
+        Err(e) => rt.eprintln(format_args!("{path}: {e}")),
     }
-    let fd = os::open_read(&path[..n]);
-    if fd < 0 {
-        os::fail(&path[..n]);
-        return;
-    }
-    run(fd);
-    libc::close(fd);
 }

@@ -1,4 +1,6 @@
 // Two files, or two lists of samples, beside each other.
+#![tactic(auto)]
+
 ghost use Rattle.std.specs.Prelude.{◌≡◌, ◌+◌, ◌*◌, ◌≤◌, length};
 ghost use Rattle.remaster_compare.specs.Same.{same_byte, same_sample, one_if, counted};
 ghost use Rattle.remaster_compare.specs.Kept.{compared_from, is_header_kept, block_at, is_kept};
@@ -7,7 +9,7 @@ use block::BlockHeader;
 use format::{Coding, Header};
 
 // Of so many, how many are the same.
-#[derive(Drop)]
+#[derive(Clone, Copy)]
 pub struct Count {
     pub same: usize,
     pub all: usize,
@@ -74,7 +76,7 @@ pub fn same_samples(a: &[i32], b: &[i32], n: usize) -> Count
 }
 
 // Whether a block's header is kept, and where the block ends.
-#[derive(Drop)]
+#[derive(Clone, Copy)]
 struct Block {
     is_kept: bool,
     end: usize,

@@ -1,5 +1,7 @@
 // The main job on a file: decode, re-encode with the file as template, compare. What it prints is another crate's
 // work.
+#![tactic(auto)]
+
 mod halving;
 
 ghost use Rattle.std.specs.Prelude.{◌≡◌};
@@ -16,14 +18,14 @@ use remaster_compare::{Count, block_count, same_bytes, same_headers, same_sample
 use template::encode_pcm_with_template;
 
 // The file's own samples with a template: whether what is written is the file itself.
-#[derive(Drop)]
+#[derive(Clone, Copy)]
 pub struct Restored {
     pub answer: Answer,
     pub is_itself: bool,
 }
 
 // How much of a file is the same in another: bytes, those before the data, block headers, and bytes behind the data.
-#[derive(Drop)]
+#[derive(Clone, Copy)]
 pub struct Kept {
     pub all: Count,
     pub before: Count,
@@ -33,7 +35,7 @@ pub struct Kept {
 
 // Of what was written: it is opened and decoded, the samples are compared with the halved ones, and it is the
 // template with which the file is restored again.
-#[derive(Drop)]
+#[derive(Clone, Copy)]
 pub struct ReadBack {
     pub opened: Answer,
     pub decoded: Answer,
@@ -42,7 +44,7 @@ pub struct ReadBack {
 }
 
 // The file restored with itself as template, and what its samples, halved, make of it.
-#[derive(Drop)]
+#[derive(Clone, Copy)]
 pub struct Rewritten {
     pub restored: Restored,
     pub written: Answer,
@@ -50,7 +52,7 @@ pub struct Rewritten {
 }
 
 // What the job found: of decoding, of re-encoding, and of what was written.
-#[derive(Drop)]
+#[derive(Clone, Copy)]
 pub struct Report {
     pub decoded: Answer,
     pub rewritten: Rewritten,

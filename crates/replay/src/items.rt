@@ -1,16 +1,17 @@
 // What the list puts into the two spaces, and where it stands.
-ghost use Rattle.std.specs.Prelude.{◌≡◌, min, length};
-ghost use Rattle.io.specs.Counts.{IsPrefixLen};
+ghost use Rattle.std.specs.Prelude.{◌≡◌, ◌≤◌, min, length, take};
 ghost use Rattle.replay.specs.Places.{start_of};
 ghost use Rattle.replay.specs.Spaces.{kept};
 
 use replay_list::{SPACE, kinds, read_drawn, read_u16, read_u32};
+use std::io;
+use std::io::Read;
 use std::num::wrapping_add_u64;
 
 // How many items were read. How many bytes of their spaces the file and the samples are, and how many were read or
 // built, and written, last; the settings; whether the next answer is false on purpose, and where its room is changed on
 // purpose.
-#[derive(Drop)]
+#[derive(Clone, Copy)]
 pub struct Place {
     pub items: u64,
     pub file: usize,
@@ -48,24 +49,25 @@ pub fn start() -> Place
 // n, or the length of the space where that is less.
 pub fn part(space: &[u8], n: usize) -> usize
     ensures is { result ≡ min n (length space.now) }
-    ensures counts { IsPrefixLen result space.now }
+    ensures counts { (result ≤ length space.now) × (result ≡ length (take result space.now)) }
 {
     if n < space.len() { n } else { space.len() }
 }
 
 // Puts bytes into the space: where to, how many and which the list says.
-fn put(list: i32, space: &mut [u8]) {
-    let at = read_u16(list) as usize;
-    let n = read_u16(list) as usize;
-    replay_list::put(list, space, at, n);
+fn put<R: Read>(list: &mut R, space: &mut [u8]) -> io::Result<()> {
+    let at = read_u16(list)? as usize;
+    let n = read_u16(list)? as usize;
+    replay_list::put(list, space, at, n)
 }
 
 // Puts drawn numbers into the space: where to, how many and how they are drawn the list says.
-fn draw(list: i32, space: &mut [u8]) {
-    let at = read_u16(list) as usize;
-    let n = read_u16(list) as usize;
-    let drawn = read_drawn(list);
+fn draw<R: Read>(list: &mut R, space: &mut [u8]) -> io::Result<()> {
+    let at = read_u16(list)? as usize;
+    let n = read_u16(list)? as usize;
+    let drawn = read_drawn(list)?;
     replay_list::draw(space, at, n, drawn);
+    Ok(())
 }
 
 // Keeps the first n bytes of the room at the start of the space.
@@ -79,36 +81,37 @@ fn keep(space: &mut [u8], room: &[u8], n: usize)
 }
 
 // What an item that is no question changes in the spaces.
-fn put_item(
-    list: i32,
+fn put_item<R: Read>(
+    list: &mut R,
     kind: u32,
     place: Place,
     file: &mut [u8],
     samples: &mut [u8],
     read: &[u8],
     written: &[u8],
-) {
+) -> io::Result<()> {
     match kind {
-        kinds::PUT_FILE => put(list, file),
-        kinds::PUT_SAMPLES => put(list, samples),
-        kinds::DRAW_FILE => draw(list, file),
-        kinds::DRAW_SAMPLES => draw(list, samples),
+        kinds::PUT_FILE => put(list, file)?,
+        kinds::PUT_SAMPLES => put(list, samples)?,
+        kinds::DRAW_FILE => draw(list, file)?,
+        kinds::DRAW_SAMPLES => draw(list, samples)?,
         kinds::KEEP_WRITTEN => keep(file, written, place.written),
         kinds::KEEP_READ => keep(samples, read, place.read),
         _ => {}
     }
+    Ok(())
 }
 
 // Where the list stands after an item that is no question.
-fn place_after(list: i32, kind: u32, place: Place) -> Place {
+fn place_after<R: Read>(list: &mut R, kind: u32, place: Place) -> io::Result<Place> {
     let mut after = place;
     after.items = wrapping_add_u64(place.items, 1);
     match kind {
         kinds::FILE_LENGTH => {
-            after.file = read_u16(list) as usize;
+            after.file = read_u16(list)? as usize;
         }
         kinds::SAMPLES_LENGTH => {
-            after.samples = read_u16(list) as usize;
+            after.samples = read_u16(list)? as usize;
         }
         kinds::KEEP_WRITTEN => {
             after.file = place.written;
@@ -117,32 +120,32 @@ fn place_after(list: i32, kind: u32, place: Place) -> Place {
             after.samples = place.read;
         }
         kinds::SETTINGS => {
-            after.channels = read_u16(list);
-            after.depth = read_u16(list);
-            after.rate = read_u32(list);
+            after.channels = read_u16(list)?;
+            after.depth = read_u16(list)?;
+            after.rate = read_u32(list)?;
         }
         kinds::FALSE_ANSWER => {
             after.is_false = true;
         }
         kinds::SPOILED_ROOM => {
             after.is_false = true;
-            after.spoiled = read_u16(list) as usize;
+            after.spoiled = read_u16(list)? as usize;
         }
         _ => {}
     }
-    after
+    Ok(after)
 }
 
 // Does what an item says that is no question, and answers where the list then stands. A question is only counted.
-pub fn follow(
-    list: i32,
+pub fn follow<R: Read>(
+    list: &mut R,
     kind: u32,
     place: Place,
     file: &mut [u8; SPACE],
     samples: &mut [u8; SPACE],
     read: &[u8; SPACE],
     written: &[u8; SPACE],
-) -> Place {
-    put_item(list, kind, place, file, samples, read, written);
+) -> io::Result<Place> {
+    put_item(list, kind, place, file, samples, read, written)?;
     place_after(list, kind, place)
 }

@@ -6,6 +6,8 @@ use crate::items::{NOWHERE, Place, part};
 use format::{Frames, PcmSpec};
 use replay_counts::COUNTS;
 use replay_list::{MOST_SAMPLES, SPACE, Verdict, kinds, read_u16, read_u32};
+use std::io;
+use std::io::Read;
 
 // n, or the length of the room where that is less.
 fn words_of(room: &[i32], n: usize) -> usize
@@ -17,13 +19,19 @@ fn words_of(room: &[i32], n: usize) -> usize
 
 // `open`, `decode`, `step`, `read_frames`, `encode` and `reencode` ask one question each; `build_peaks`, `read_peak`,
 // `read_peaks` and `check_peaks` those about peaks, with the samples' bytes as summary.
-fn open(list: i32, place: Place, file: &[u8]) -> Verdict {
+fn open<R: Read>(list: &mut R, place: Place, file: &[u8]) -> io::Result<Verdict> {
     let n = part(file, place.file);
     replay_reading::open(list, &file[..n])
 }
 
-fn decode(list: i32, place: Place, file: &[u8], words: &mut [i32], bytes: &mut [u8]) -> Verdict {
-    let asked = read_u16(list) as usize;
+fn decode<R: Read>(
+    list: &mut R,
+    place: Place,
+    file: &[u8],
+    words: &mut [i32],
+    bytes: &mut [u8],
+) -> io::Result<Verdict> {
+    let asked = read_u16(list)? as usize;
     let n = part(file, place.file);
     let m = words_of(words, asked);
     let k = part(bytes, 4 * asked);
@@ -36,24 +44,29 @@ fn decode(list: i32, place: Place, file: &[u8], words: &mut [i32], bytes: &mut [
     )
 }
 
-fn step(list: i32, place: Place, file: &[u8], words: &mut [i32]) -> Verdict {
-    let group = read_u32(list);
-    let asked = read_u16(list) as usize;
+fn step<R: Read>(
+    list: &mut R,
+    place: Place,
+    file: &[u8],
+    words: &mut [i32],
+) -> io::Result<Verdict> {
+    let group = read_u32(list)?;
+    let asked = read_u16(list)? as usize;
     let n = part(file, place.file);
     let m = words_of(words, asked);
     replay_reading::step(list, &file[..n], group, place.spoiled, &mut words[..m])
 }
 
-fn read_frames(
-    list: i32,
+fn read_frames<R: Read>(
+    list: &mut R,
     place: Place,
     file: &[u8],
     words: &mut [i32],
     bytes: &mut [u8],
-) -> Verdict {
-    let first = Frames(read_u32(list));
-    let count = Frames(read_u32(list));
-    let asked = read_u16(list) as usize;
+) -> io::Result<Verdict> {
+    let first = Frames(read_u32(list)?);
+    let count = Frames(read_u32(list)?);
+    let asked = read_u16(list)? as usize;
     let n = part(file, place.file);
     let m = words_of(words, asked);
     let k = part(bytes, 4 * asked);
@@ -79,9 +92,14 @@ fn spec_of(place: Place) -> PcmSpec
     }
 }
 
-fn encode(list: i32, place: Place, samples: &[u8], room: &mut [u8]) -> Verdict {
-    let mode = read_u32(list);
-    let asked = read_u16(list) as usize;
+fn encode<R: Read>(
+    list: &mut R,
+    place: Place,
+    samples: &[u8],
+    room: &mut [u8],
+) -> io::Result<Verdict> {
+    let mode = read_u32(list)?;
+    let asked = read_u16(list)? as usize;
     let n = part(samples, place.samples);
     let m = part(room, asked);
     replay_writing::encode(
@@ -94,8 +112,14 @@ fn encode(list: i32, place: Place, samples: &[u8], room: &mut [u8]) -> Verdict {
     )
 }
 
-fn reencode(list: i32, place: Place, samples: &[u8], file: &[u8], room: &mut [u8]) -> Verdict {
-    let asked = read_u16(list) as usize;
+fn reencode<R: Read>(
+    list: &mut R,
+    place: Place,
+    samples: &[u8],
+    file: &[u8],
+    room: &mut [u8],
+) -> io::Result<Verdict> {
+    let asked = read_u16(list)? as usize;
     let n = part(samples, place.samples);
     let k = part(file, place.file);
     let m = part(room, asked);
@@ -109,23 +133,28 @@ fn reencode(list: i32, place: Place, samples: &[u8], file: &[u8], room: &mut [u8
     )
 }
 
-fn build_peaks(list: i32, place: Place, file: &[u8], room: &mut [u8]) -> Verdict {
-    let asked = read_u16(list) as usize;
+fn build_peaks<R: Read>(
+    list: &mut R,
+    place: Place,
+    file: &[u8],
+    room: &mut [u8],
+) -> io::Result<Verdict> {
+    let asked = read_u16(list)? as usize;
     let n = part(file, place.file);
     let m = part(room, asked);
     replay_peaks::build(list, &file[..n], place.spoiled, &mut room[..m])
 }
 
-fn read_peak(
-    list: i32,
+fn read_peak<R: Read>(
+    list: &mut R,
     place: Place,
     summary: &[u8],
     words: &mut [i32],
     bytes: &mut [u8],
-) -> Verdict {
-    let group = read_u32(list);
-    let channel = read_u32(list);
-    let asked = read_u16(list) as usize;
+) -> io::Result<Verdict> {
+    let group = read_u32(list)?;
+    let channel = read_u32(list)?;
+    let asked = read_u16(list)? as usize;
     let n = part(summary, place.samples);
     let m = words_of(words, asked);
     let k = part(bytes, 4 * asked);
@@ -140,14 +169,14 @@ fn read_peak(
     )
 }
 
-fn read_peaks(
-    list: i32,
+fn read_peaks<R: Read>(
+    list: &mut R,
     place: Place,
     summary: &[u8],
     words: &mut [i32],
     bytes: &mut [u8],
-) -> Verdict {
-    let asked = read_u16(list) as usize;
+) -> io::Result<Verdict> {
+    let asked = read_u16(list)? as usize;
     let n = part(summary, place.samples);
     let m = words_of(words, asked);
     let k = part(bytes, 4 * asked);
@@ -160,15 +189,20 @@ fn read_peaks(
     )
 }
 
-fn check_peaks(list: i32, place: Place, summary: &[u8], file: &[u8]) -> Verdict {
+fn check_peaks<R: Read>(
+    list: &mut R,
+    place: Place,
+    summary: &[u8],
+    file: &[u8],
+) -> io::Result<Verdict> {
     let n = part(summary, place.samples);
     let k = part(file, place.file);
     replay_peaks::check(list, &summary[..n], &file[..k])
 }
 
 // Whether the question is answered as recorded.
-fn ask(
-    list: i32,
+fn ask<R: Read>(
+    list: &mut R,
     kind: u32,
     place: Place,
     file: &[u8],
@@ -176,7 +210,7 @@ fn ask(
     words: &mut [i32],
     read: &mut [u8],
     written: &mut [u8],
-) -> Verdict {
+) -> io::Result<Verdict> {
     match kind {
         kinds::OPEN => open(list, place, file),
         kinds::DECODE => decode(list, place, file, words, read),
@@ -214,8 +248,9 @@ fn place_after(kind: u32, place: Place, verdict: Verdict) -> Place
 }
 
 // If the item is a question, it is asked and counted. Answers where the list then stands.
-pub fn answer(
-    list: i32,
+pub fn answer<R: Read>(
+    rt: &impl Print,
+    list: &mut R,
     kind: u32,
     place: Place,
     file: &[u8; SPACE],
@@ -224,14 +259,14 @@ pub fn answer(
     read: &mut [u8; SPACE],
     written: &mut [u8; SPACE],
     counts: &mut [u64; COUNTS],
-) -> Place {
+) -> io::Result<Place> {
     if kind < kinds::OPEN {
-        return place;
+        return Ok(place);
     }
     if kinds::PEAKS_CHECK < kind {
-        return place;
+        return Ok(place);
     }
-    let verdict = ask(list, kind, place, file, samples, words, read, written);
-    replay_counts::tally(counts, place.items, kind, place.is_false, verdict);
-    place_after(kind, place, verdict)
+    let verdict = ask(list, kind, place, file, samples, words, read, written)?;
+    replay_counts::tally(rt, counts, place.items, kind, place.is_false, verdict)?;
+    Ok(place_after(kind, place, verdict))
 }

@@ -1,10 +1,13 @@
 // How often each question was answered by each number; then how many were as recorded and how many were not, and how
 // many were false on purpose and found.
+#![tactic(auto)]
+
 ghost use Rattle.std.specs.Prelude.{◌≡◌, slice_index};
 ghost use Rattle.replay_counts.specs.Counts.{place_of, others, counted, tallied_false, tallied};
 
 use replay_list::{ACCEPTED, DONE, Verdict, kinds};
 use report::{print, print_number};
+use std::io;
 use std::num::wrapping_add_u64;
 
 // Room for the counts: of 10 questions 256 numbers each, and behind these the four sums; the rest is not used.
@@ -45,100 +48,110 @@ fn place_of(kind: u32, number: u32) -> usize
     (kind % 16 * 256 + number % 256) as usize
 }
 
-// An answer that is not as it is to be: its item is named.
-fn count_other(counts: &mut [u64], item: u64)
+// An answer that is not as it is to be: it is counted, and its item is named.
+fn count_other(rt: &impl Print, counts: &mut [u64], item: u64) -> io::Result<()>
     ensures { counts.new ≡ counted counts.old others }
 {
-    print(b"item ");
-    print_number(item);
-    print(b": not as recorded\n");
     count(counts, OTHERS);
+    print(rt, b"item ")?;
+    print_number(rt, item)?;
+    print(rt, b": not as recorded\n")
 }
 
 // An answer that is false on purpose is to differ from the record.
-fn tally_false(counts: &mut [u64], item: u64, is_same: bool)
+fn tally_false(rt: &impl Print, counts: &mut [u64], item: u64, is_same: bool) -> io::Result<()>
     ensures { counts.new ≡ tallied_false counts.old is_same }
 {
     count(counts, FALSE);
     if is_same {
-        count_other(counts, item);
-    } else {
-        count(counts, FOUND);
+        return count_other(rt, counts, item);
     }
+    count(counts, FOUND);
+    Ok(())
 }
 
-// Counts the answer to the item of that number and kind, which may be false on purpose.
-pub fn tally(counts: &mut [u64], item: u64, kind: u32, is_false: bool, verdict: Verdict)
+// Counts the answer to the item of that number and kind, which may be false on purpose. It is counted also where its
+// item cannot be printed.
+pub fn tally(
+    rt: &impl Print,
+    counts: &mut [u64],
+    item: u64,
+    kind: u32,
+    is_false: bool,
+    verdict: Verdict,
+) -> io::Result<()>
     ensures { counts.new ≡ tallied counts.old kind is_false verdict }
 {
     if is_false {
-        tally_false(counts, item, verdict.is_same);
-        return;
+        return tally_false(rt, counts, item, verdict.is_same);
     }
     if verdict.is_same {
         count(counts, AS_RECORDED);
         count(counts, place_of(kind, verdict.number));
-    } else {
-        count_other(counts, item);
+        return Ok(());
     }
+    count_other(rt, counts, item)
 }
 
-fn print_refusal(is_first: bool, number: u32, times: u64) {
+fn print_refusal(rt: &impl Print, is_first: bool, number: u32, times: u64) -> io::Result<()> {
     if is_first {
-        print(b", refused ");
+        print(rt, b", refused ")?;
     } else {
-        print(b", ");
+        print(rt, b", ")?;
     }
-    print_number(number as u64);
-    print(b": ");
-    print_number(times);
+    print_number(rt, number as u64)?;
+    print(rt, b": ")?;
+    print_number(rt, times)
 }
 
 // The refusals of a question, by number.
-fn print_refusals(counts: &[u64], kind: u32) {
+fn print_refusals(rt: &impl Print, counts: &[u64], kind: u32) -> io::Result<()> {
     let mut is_first = true;
-    let mut number = FIRST_REFUSAL;
-    while number < DONE {
+    for number in FIRST_REFUSAL..DONE {
         let times = count_of(counts, place_of(kind, number));
         if 0 < times {
-            print_refusal(is_first, number, times);
+            print_refusal(rt, is_first, number, times)?;
             is_first = false;
         }
-        number += 1;
     }
+    Ok(())
 }
 
-fn print_question(counts: &[u64], kind: u32, name: &[u8]) {
-    print(name);
-    print(b": accepted ");
-    print_number(count_of(counts, place_of(kind, ACCEPTED)));
+fn print_question(rt: &impl Print, counts: &[u64], kind: u32, name: &[u8]) -> io::Result<()> {
+    print(rt, name)?;
+    print(rt, b": accepted ")?;
+    print_number(rt, count_of(counts, place_of(kind, ACCEPTED)))?;
     let done = count_of(counts, place_of(kind, DONE));
     if 0 < done {
-        print(b", done ");
-        print_number(done);
+        print(rt, b", done ")?;
+        print_number(rt, done)?;
     }
-    print_refusals(counts, kind);
-    print(b"\n");
+    print_refusals(rt, counts, kind)?;
+    print(rt, b"\n")
+}
+
+fn print_questions(rt: &impl Print, counts: &[u64]) -> io::Result<()> {
+    print_question(rt, counts, kinds::OPEN, b"opening")?;
+    print_question(rt, counts, kinds::DECODE, b"decoding")?;
+    print_question(rt, counts, kinds::STEP, b"stepping")?;
+    print_question(rt, counts, kinds::ENCODE, b"encoding")?;
+    print_question(rt, counts, kinds::REENCODE, b"re-encoding")?;
+    print_question(rt, counts, kinds::READ_FRAMES, b"reading frames")?;
+    print_question(rt, counts, kinds::PEAKS, b"building peaks")?;
+    print_question(rt, counts, kinds::PEAK, b"reading a peak")?;
+    print_question(rt, counts, kinds::PEAKS_ALL, b"reading peaks")?;
+    print_question(rt, counts, kinds::PEAKS_CHECK, b"checking peaks")
 }
 
 // A line for each question, and the four sums.
-pub fn print_counts(counts: &[u64; COUNTS]) {
-    print_question(counts, kinds::OPEN, b"opening");
-    print_question(counts, kinds::DECODE, b"decoding");
-    print_question(counts, kinds::STEP, b"stepping");
-    print_question(counts, kinds::ENCODE, b"encoding");
-    print_question(counts, kinds::REENCODE, b"re-encoding");
-    print_question(counts, kinds::READ_FRAMES, b"reading frames");
-    print_question(counts, kinds::PEAKS, b"building peaks");
-    print_question(counts, kinds::PEAK, b"reading a peak");
-    print_question(counts, kinds::PEAKS_ALL, b"reading peaks");
-    print_question(counts, kinds::PEAKS_CHECK, b"checking peaks");
-    print_number(count_of(counts, AS_RECORDED));
-    print(b" answers as recorded, ");
-    print_number(count_of(counts, OTHERS));
-    print(b" others\n");
-    print_number(count_of(counts, FALSE));
-    print(b" false ones on purpose, ");
-    print_number(count_of(counts, FOUND));
-    print(b" found\n");
+pub fn print_counts(rt: &impl Print, counts: &[u64; COUNTS]) -> io::Result<()> {
+    print_questions(rt, counts)?;
+    print_number(rt, count_of(counts, AS_RECORDED))?;
+    print(rt, b" answers as recorded, ")?;
+    print_number(rt, count_of(counts, OTHERS))?;
+    print(rt, b" others\n")?;
+    print_number(rt, count_of(counts, FALSE))?;
+    print(rt, b" false ones on purpose, ")?;
+    print_number(rt, count_of(counts, FOUND))?;
+    print(rt, b" found\n")
 }

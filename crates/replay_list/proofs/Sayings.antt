@@ -24,7 +24,7 @@ low_bits (negsuc n) f = omega arith
 
 pub word_bits : (z : ℤ) {n : ℕ} → SFits w16 z → n ≡ code_of 32 (to_z w32 (of_z w32 (to_z w16 (of_z w16 z)))) → n % 65536 ≡ code_of 16 z
 word_bits z {n} f e =
-    let b : n ≡ code_of 32 z = e ∙ ap (code_of 32) (ap (λ (y : ℤ). to_z w32 (of_z w32 y)) (to_z-of_z f) ∙ to_z-of_z (sfits_widen tt f)) in
+    let b : n ≡ code_of 32 z = e ∙ ap (code_of 32) (ap (λ (y : ℤ). to_z w32 (of_z w32 y)) (to_z-of_z f) ∙ to_z-of_z {w = w32} (sfits_widen (tt {0}) f)) in
     rw b (low_bits z f.sfits)
 
 -- ---- what is told

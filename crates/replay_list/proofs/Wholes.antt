@@ -4,6 +4,7 @@ use Rattle.format.specs.Lists.{over}
 use Rattle.format.specs.Numbers.{Below}
 use Rattle.format.specs.Boundary.{samples_from, sample_bytes}
 use Rattle.laws.proofs.Parts.{length_tab}
+use Rattle.laws.proofs.SampleBytes.{sample_bytes_length}
 use Rattle.lent_samples.proofs.Laws.{length_lent}
 use Rattle.lent_samples.proofs.Outcome.{bytes_over}
 use Rattle.replay_list.specs.Room.{mark_of, marked, spoiled_at}
@@ -13,15 +14,20 @@ use Rattle.replay_list.specs.declared.answers.Recorded.{Recorded}
 use Rattle.replay_list.specs.declared.answers.Said.{Said}
 use Rattle.replay_list.specs.declared.answers.Verdict.{Verdict}
 
-module _ (b d : List ℕ) (hb : Below 256 b) (hd : Below 256 d) (rest : drop (length d / 4 * 4) d ≡ drop (length b / 4 * 4) b) where
+module _ (b d : List ℕ) (hd : Below 256 d) (rest : drop (length d / 4 * 4) d ≡ drop (length b / 4 * 4) b) where
   -- all samples of b are replaced
   whole : (xs : List ℤ) → length xs ≡ length (samples_from b) → samples_from d ≡ xs → d ≡ over (sample_bytes xs) b
   unfolding over
   whole xs n e =
-      let short : length (samples_from b) ≤ length xs = omega arith in
-      let none : drop (length xs) (samples_from b) ≡ [] = drop_of_length-le (samples_from b) short in
-      let all : over xs (samples_from b) ≡ xs = ap (λ (ys : List ℤ). xs ++ ys) none ∙ append-nil xs in
-      bytes_over xs b d hb hd (omega (arith, length_lent b)) (e ∙ sym all) rest
+      let many : length xs ≡ length d / 4 = ap length (sym e) ∙ length_lent d in
+      let none : drop (length xs) (samples_from d) ≡ [] = drop_of_length-le (samples_from d) (omega (arith, length_lent d)) in
+      let all : over xs (samples_from d) ≡ xs = ap (λ (ys : List ℤ). xs ++ ys) none ∙ append-nil xs in
+      let own : d ≡ over (sample_bytes xs) d = bytes_over xs d d hd hd (omega arith) (e ∙ sym all) refl in
+      let bytes : length (sample_bytes xs) ≡ length d / 4 * 4 = omega (arith, sample_bytes_length xs) in
+      let as_many : length (sample_bytes xs) ≡ length b / 4 * 4 = omega (arith, sample_bytes_length xs, length_lent b) in
+      let behind : drop (length (sample_bytes xs)) d ≡ drop (length (sample_bytes xs)) b =
+      ap (λ (k : ℕ). drop k d) bytes ∙ rest ∙ ap (λ (k : ℕ). drop k b) (sym as_many) in
+      own ∙ ap (λ (ys : List ℕ). sample_bytes xs ++ ys) behind
 
   pub filled_bytes : samples_from d ≡ marked (length (samples_from b)) → d ≡ marked_bytes b
   unfolding marked_bytes

@@ -10,6 +10,8 @@ use crate::room::{checksum, is_kept, room_length};
 use crate::{read_u8, read_u16, read_u32};
 use format::{Answer, Outcome, Refusal, Told};
 use lent_samples::Container;
+use std::io;
+use std::io::Read;
 
 // The number of a call that was accepted.
 pub const ACCEPTED: u32 = 0;
@@ -25,7 +27,7 @@ const WIDTH_TOO_SMALL: u32 = 36;
 
 // What was recorded of a call. Where it was refused, what it told besides the number, and the group and the channel
 // that it named; where it was accepted, how many bytes of its room it wrote, and their sum.
-#[derive(Drop)]
+#[derive(Clone, Copy)]
 pub struct Recorded {
     pub number: u32,
     pub told: u16,
@@ -36,7 +38,7 @@ pub struct Recorded {
 }
 
 // Whether a question was answered as recorded; of what was recorded, the number and how many bytes were written.
-#[derive(Drop)]
+#[derive(Clone, Copy)]
 pub struct Verdict {
     pub is_same: bool,
     pub number: u32,
@@ -68,36 +70,36 @@ fn refused(number: u32, told: u16, group: u16, channel: u16) -> Recorded
 }
 
 // What the list says behind the number of a call that was not accepted. A step that was done names no place.
-pub fn read_refusal(list: i32, number: u32) -> Recorded {
+pub fn read_refusal<R: Read>(list: &mut R, number: u32) -> io::Result<Recorded> {
     if number == DONE {
-        return refused(number, 0, 0, 0);
+        return Ok(refused(number, 0, 0, 0));
     }
     let mut told: u16 = 0;
     if number == BITS_WORD || number == WIDTH_TOO_SMALL {
-        told = read_u16(list);
+        told = read_u16(list)?;
     }
-    let group = read_u16(list);
-    let channel = read_u16(list);
-    refused(number, told, group, channel)
+    let group = read_u16(list)?;
+    let channel = read_u16(list)?;
+    Ok(refused(number, told, group, channel))
 }
 
 // What the list says of a call: it counts samples there, 4 bytes each, or the bytes of a file or a summary.
-pub fn read_recorded(list: i32, counts_samples: bool) -> Recorded {
-    let number = read_u8(list);
+pub fn read_recorded<R: Read>(list: &mut R, counts_samples: bool) -> io::Result<Recorded> {
+    let number = read_u8(list)?;
     if number != ACCEPTED {
         return read_refusal(list, number);
     }
-    let count = read_u32(list) as u64;
-    let sum = read_u32(list) as u64;
+    let count = read_u32(list)? as u64;
+    let sum = read_u32(list)? as u64;
     let length = if counts_samples { 4 * count } else { count };
-    Recorded {
+    Ok(Recorded {
         number,
         told: 0,
         group: 0,
         channel: 0,
         length,
         sum,
-    }
+    })
 }
 
 // The place in its block that was recorded of 36; 0 of all others.
@@ -121,7 +123,7 @@ pub fn word_of(want: Recorded) -> u64
 
 // What a call said: its number, what it told besides, the group and the channel that it named, and how many bytes it
 // wrote.
-#[derive(Drop)]
+#[derive(Clone, Copy)]
 pub struct Said {
     pub number: u32,
     pub told: u16,

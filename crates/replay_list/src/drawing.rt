@@ -4,11 +4,14 @@ ghost use Rattle.std.specs.Prelude.{◌≡◌, ◌/◌, length};
 ghost use Rattle.format.specs.Lists.{over};
 ghost use Rattle.replay_list.specs.Drawn.{next_of, value_of, number_of, drawn, drawn_into};
 
+use crate::{read_u8, read_u32};
 use le_bytes::put_u32_le;
+use std::io;
+use std::io::Read;
 use std::num::wrapping_add_u32;
 
 // From which x to start, and how to make a number of each x.
-#[derive(Drop)]
+#[derive(Clone, Copy)]
 pub struct Drawn {
     pub seed: u32,
     pub low: u32,
@@ -18,18 +21,18 @@ pub struct Drawn {
 }
 
 // What the list says of a draw. Bit 1 of the style doubles, bit 0 adds up.
-pub fn read_drawn(list: i32) -> Drawn {
-    let seed = crate::read_u32(list);
-    let low = crate::read_u32(list);
-    let range = crate::read_u32(list);
-    let style = crate::read_u8(list);
-    Drawn {
+pub fn read_drawn<R: Read>(list: &mut R) -> io::Result<Drawn> {
+    let seed = read_u32(list)?;
+    let low = read_u32(list)?;
+    let range = read_u32(list)?;
+    let style = read_u8(list)?;
+    Ok(Drawn {
         seed,
         low,
         range,
         is_doubled: style / 2 % 2 == 1,
         in_steps: style % 2 == 1,
-    }
+    })
 }
 
 fn next(x: u32) -> u32

@@ -1,5 +1,7 @@
 // The list of recorded answers, read item by item: its numbers, what it puts into a space, and what was recorded of
 // an answer. Behind the list's end every byte reads as 0.
+#![tactic(auto)]
+
 mod answers;
 mod bytes;
 mod drawing;
@@ -14,8 +16,11 @@ pub use answers::{
 };
 pub use bytes::{fill_bytes, is_answered};
 pub use drawing::{Drawn, draw, read_drawn};
+use intake::read_full;
 use le_bytes::{read_u16_le, read_u32_le};
 pub use room::{fill, room_length, spoil};
+use std::io;
+use std::io::Read;
 
 // The bytes of each of the two spaces, and of the room that is lent to a question; how many samples these are.
 pub const SPACE: usize = 16384;
@@ -29,33 +34,34 @@ fn wide(x: u8) -> u32
 }
 
 // The list's next byte.
-pub fn read_u8(list: i32) -> u32 {
+pub fn read_u8<R: Read>(list: &mut R) -> io::Result<u32> {
     let mut bytes = [0u8; 1];
-    io::read_full(list, &mut bytes);
-    wide(bytes[0])
+    read_full(list, &mut bytes)?;
+    Ok(wide(bytes[0]))
 }
 
 // The number that the list's next 2 bytes are, the lowest first.
-pub fn read_u16(list: i32) -> u16 {
+pub fn read_u16<R: Read>(list: &mut R) -> io::Result<u16> {
     let mut bytes = [0u8; 2];
-    io::read_full(list, &mut bytes);
-    read_u16_le(&bytes, 0)
+    read_full(list, &mut bytes)?;
+    Ok(read_u16_le(&bytes, 0))
 }
 
 // The number that the list's next 4 bytes are, the lowest first.
-pub fn read_u32(list: i32) -> u32 {
+pub fn read_u32<R: Read>(list: &mut R) -> io::Result<u32> {
     let mut bytes = [0u8; 4];
-    io::read_full(list, &mut bytes);
-    read_u32_le(&bytes, 0)
+    read_full(list, &mut bytes)?;
+    Ok(read_u32_le(&bytes, 0))
 }
 
 // Puts the list's next n bytes into the space that is lent, from `at` on, where they lie within it.
-pub fn put(list: i32, space: &mut [u8], at: usize, n: usize) {
+pub fn put<R: Read>(list: &mut R, space: &mut [u8], at: usize, n: usize) -> io::Result<()> {
     if space.len() < at {
-        return;
+        return Ok(());
     }
     if space.len() - at < n {
-        return;
+        return Ok(());
     }
-    io::read_full(list, &mut space[at..at + n]);
+    read_full(list, &mut space[at..at + n])?;
+    Ok(())
 }

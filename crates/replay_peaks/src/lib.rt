@@ -1,6 +1,8 @@
 // Building a summary of peaks and checking one against a file, each asked of the proved entry and of the host boundary:
 // whether both answer as recorded.
-ghost use Rattle.std.specs.Prelude.{◌≡◌};
+#![tactic(auto)]
+
+ghost use Rattle.std.specs.Prelude.{◌≡◌, OnErr};
 ghost use Rattle.replay_list.specs.Said.{verdict_of};
 ghost use Rattle.replay_peaks.specs.Built.{entry_builds, host_builds, left_built, both_build};
 ghost use Rattle.replay_peaks.specs.Compared.{entry_compares, host_compares, both_compare};
@@ -9,6 +11,8 @@ use replay_list::{
     Recorded, Verdict, fill_bytes, is_answered, is_said, judged, of_answer, of_result,
     read_recorded,
 };
+use std::io;
+use std::io::Read;
 
 // Whether the entry builds the file's summary as recorded. The room is changed at `spoiled` before it is compared.
 fn build_by_entry(file: &[u8], spoiled: usize, room: &mut [u8], want: Recorded) -> bool
@@ -44,9 +48,16 @@ fn judge_build(file: &[u8], spoiled: usize, room: &mut [u8], want: Recorded) -> 
 
 // Builds the file's summary, and compares with what the list says next. The room is changed on purpose at its word
 // `spoiled`, where it reaches so far.
-pub fn build(list: i32, file: &[u8], spoiled: usize, room: &mut [u8]) -> Verdict {
-    let want = read_recorded(list, false);
-    judge_build(file, spoiled, room, want)
+pub fn build<R: Read>(
+    list: &mut R,
+    file: &[u8],
+    spoiled: usize,
+    room: &mut [u8],
+) -> io::Result<Verdict>
+    ensures kept { OnErr result (room.new ≡ room.old) }
+{
+    let want = read_recorded(list, false)?;
+    Ok(judge_build(file, spoiled, room, want))
 }
 
 // Whether the entry says of the summary and the file what was recorded.
@@ -74,7 +85,7 @@ fn judge_check(summary: &[u8], file: &[u8], want: Recorded) -> Verdict
 }
 
 // Checks the summary against the file, and compares with what the list says next.
-pub fn check(list: i32, summary: &[u8], file: &[u8]) -> Verdict {
-    let want = read_recorded(list, false);
-    judge_check(summary, file, want)
+pub fn check<R: Read>(list: &mut R, summary: &[u8], file: &[u8]) -> io::Result<Verdict> {
+    let want = read_recorded(list, false)?;
+    Ok(judge_check(summary, file, want))
 }

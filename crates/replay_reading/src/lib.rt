@@ -1,6 +1,8 @@
 // Opening, decoding, reading a few frames or the pairs of a summary, and a step of a walk, each asked of the proved
 // entry and, where it has one, of the host boundary: whether all answer as recorded.
-ghost use Rattle.std.specs.Prelude.{◌≡◌, length};
+#![tactic(auto)]
+
+ghost use Rattle.std.specs.Prelude.{◌≡◌, length, OnErr};
 ghost use Rattle.replay_list.specs.Said.{verdict_of};
 ghost use Rattle.replay_reading.specs.Opened.{number_of, is_header, is_opened, is_length, is_refused};
 ghost use Rattle.replay_reading.specs.Opened.{both_open, opening_number, opening_verdict};
@@ -12,11 +14,13 @@ use format::{Answer, Frames, Header, Outcome, SampleFormat};
 use lent_samples::Container;
 use replay_list::{
     ACCEPTED, Recorded, Said, Verdict, fill, fill_bytes, is_answered, is_recorded, is_said, judged,
-    of_answer, of_result, read_recorded, read_refusal, spoil, word_of,
+    of_answer, of_result, read_recorded, read_refusal, read_u8, read_u16, read_u32, spoil, word_of,
 };
+use std::io;
+use std::io::Read;
 
 // What was recorded of a file that opens: its header's numbers.
-#[derive(Drop)]
+#[derive(Clone, Copy)]
 struct Opened {
     channels: u16,
     depth: u16,
@@ -30,32 +34,32 @@ struct Opened {
 }
 
 // What was recorded of opening a file: the numbers of its header, or the refusal.
-#[derive(Drop)]
+#[derive(Clone, Copy)]
 enum RecordedOpening {
     Opens(Opened),
     Refuses(Recorded),
 }
 
-fn read_opened(list: i32) -> Opened {
-    Opened {
-        channels: replay_list::read_u16(list),
-        depth: replay_list::read_u16(list),
-        rate: replay_list::read_u32(list),
-        frames: replay_list::read_u32(list),
-        table: replay_list::read_u32(list),
-        start: replay_list::read_u32(list),
-        size: replay_list::read_u32(list),
-        groups: replay_list::read_u32(list),
-        format: replay_list::read_u8(list),
-    }
+fn read_opened<R: Read>(list: &mut R) -> io::Result<Opened> {
+    Ok(Opened {
+        channels: read_u16(list)?,
+        depth: read_u16(list)?,
+        rate: read_u32(list)?,
+        frames: read_u32(list)?,
+        table: read_u32(list)?,
+        start: read_u32(list)?,
+        size: read_u32(list)?,
+        groups: read_u32(list)?,
+        format: read_u8(list)?,
+    })
 }
 
-fn read_opening(list: i32) -> RecordedOpening {
-    let number = replay_list::read_u8(list);
+fn read_opening<R: Read>(list: &mut R) -> io::Result<RecordedOpening> {
+    let number = read_u8(list)?;
     if number == ACCEPTED {
-        RecordedOpening::Opens(read_opened(list))
+        Ok(RecordedOpening::Opens(read_opened(list)?))
     } else {
-        RecordedOpening::Refuses(read_refusal(list, number))
+        Ok(RecordedOpening::Refuses(read_refusal(list, number)?))
     }
 }
 
@@ -148,14 +152,14 @@ fn judge_open(file: &[u8], want: RecordedOpening) -> Verdict
 }
 
 // Opens the file, and compares with what the list says next.
-pub fn open(list: i32, file: &[u8]) -> Verdict {
-    let want = read_opening(list);
-    judge_open(file, want)
+pub fn open<R: Read>(list: &mut R, file: &[u8]) -> io::Result<Verdict> {
+    let want = read_opening(list)?;
+    Ok(judge_open(file, want))
 }
 
 // How bytes are read: a file decoded whole, or a range of its frames, by the first and how many; a summary's pair, by
 // group and channel, or all its pairs.
-#[derive(Drop)]
+#[derive(Clone, Copy)]
 enum Way {
     Decode,
     Range(Frames, Frames),
@@ -252,62 +256,70 @@ fn judge_read(
 
 // Decodes the file into each room, and compares with what the list says next. Both rooms are changed on purpose at
 // sample `spoiled`, where they reach so far.
-pub fn decode(
-    list: i32,
+pub fn decode<R: Read>(
+    list: &mut R,
     file: &[u8],
     spoiled: usize,
     words: &mut [i32],
     bytes: &mut [u8],
-) -> Verdict {
-    let want = read_recorded(list, true);
-    judge_read(Way::Decode, file, spoiled, words, bytes, want)
+) -> io::Result<Verdict>
+    ensures kept { OnErr result ((words.new ≡ words.old) × (bytes.new ≡ bytes.old)) }
+{
+    let want = read_recorded(list, true)?;
+    Ok(judge_read(Way::Decode, file, spoiled, words, bytes, want))
 }
 
 // The same of so many frames, from a first one on.
-pub fn read_frames(
-    list: i32,
+pub fn read_frames<R: Read>(
+    list: &mut R,
     file: &[u8],
     first: Frames,
     count: Frames,
     spoiled: usize,
     words: &mut [i32],
     bytes: &mut [u8],
-) -> Verdict {
-    let want = read_recorded(list, true);
-    judge_read(Way::Range(first, count), file, spoiled, words, bytes, want)
+) -> io::Result<Verdict>
+    ensures kept { OnErr result ((words.new ≡ words.old) × (bytes.new ≡ bytes.old)) }
+{
+    let want = read_recorded(list, true)?;
+    Ok(judge_read(Way::Range(first, count), file, spoiled, words, bytes, want))
 }
 
 // The same of the pair of a group and a channel in a summary: its smallest and its largest sample.
-pub fn read_peak(
-    list: i32,
+pub fn read_peak<R: Read>(
+    list: &mut R,
     summary: &[u8],
     group: u32,
     channel: u32,
     spoiled: usize,
     words: &mut [i32],
     bytes: &mut [u8],
-) -> Verdict {
-    let want = read_recorded(list, true);
-    judge_read(
+) -> io::Result<Verdict>
+    ensures kept { OnErr result ((words.new ≡ words.old) × (bytes.new ≡ bytes.old)) }
+{
+    let want = read_recorded(list, true)?;
+    Ok(judge_read(
         Way::Pair(group, channel),
         summary,
         spoiled,
         words,
         bytes,
         want,
-    )
+    ))
 }
 
 // The same of all its pairs.
-pub fn read_peaks(
-    list: i32,
+pub fn read_peaks<R: Read>(
+    list: &mut R,
     summary: &[u8],
     spoiled: usize,
     words: &mut [i32],
     bytes: &mut [u8],
-) -> Verdict {
-    let want = read_recorded(list, true);
-    judge_read(Way::Pairs, summary, spoiled, words, bytes, want)
+) -> io::Result<Verdict>
+    ensures kept { OnErr result ((words.new ≡ words.old) × (bytes.new ≡ bytes.old)) }
+{
+    let want = read_recorded(list, true)?;
+    Ok(judge_read(Way::Pairs, summary, spoiled, words, bytes, want))
 }
 
 // The walk stands at a group, and after the step is to stand at `next`.
@@ -333,8 +345,16 @@ fn judge_step(
 
 // One step of a walk that stands at `group`, compared with what the list says next. The room is changed on purpose at
 // sample `spoiled`, where it reaches so far.
-pub fn step(list: i32, file: &[u8], group: u32, spoiled: usize, room: &mut [i32]) -> Verdict {
-    let want = read_recorded(list, true);
-    let next = replay_list::read_u32(list);
-    judge_step(file, group, spoiled, room, want, next)
+pub fn step<R: Read>(
+    list: &mut R,
+    file: &[u8],
+    group: u32,
+    spoiled: usize,
+    room: &mut [i32],
+) -> io::Result<Verdict>
+    ensures kept { OnErr result (room.new ≡ room.old) }
+{
+    let want = read_recorded(list, true)?;
+    let next = read_u32(list)?;
+    Ok(judge_step(file, group, spoiled, room, want, next))
 }

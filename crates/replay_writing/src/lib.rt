@@ -1,5 +1,7 @@
 // Encoding and re-encoding, each asked of the proved entry and of the host boundary: whether both answer as recorded.
-ghost use Rattle.std.specs.Prelude.{◌≡◌, ◌≤◌, length, take};
+#![tactic(auto)]
+
+ghost use Rattle.std.specs.Prelude.{◌≡◌, ◌≤◌, length, take, OnErr};
 ghost use Rattle.format.specs.Lists.{over};
 ghost use Rattle.replay_list.specs.Said.{verdict_of};
 ghost use Rattle.replay_writing.specs.Written.{taken, is_asked, entry_says, entry_puts, host_says, host_puts};
@@ -13,9 +15,11 @@ use replay_list::{
     MOST_SAMPLES, Recorded, Said, Verdict, fill_bytes, is_answered, judged, of_answer, of_result,
     read_recorded, room_length, word_of,
 };
+use std::io;
+use std::io::Read;
 
 // How samples are written: encoded in a mode, or re-encoded with the old file as template.
-#[derive(Drop)]
+#[derive(Clone, Copy)]
 enum Way {
     Encode(u32),
     Reencode,
@@ -181,27 +185,31 @@ fn judge(
 
 // Encodes the samples with the settings and the mode, and compares with what the list says next. The room is changed
 // on purpose at sample `spoiled`, where it reaches so far.
-pub fn encode(
-    list: i32,
+pub fn encode<R: Read>(
+    list: &mut R,
     samples: &[u8],
     p: PcmSpec,
     mode: u32,
     spoiled: usize,
     room: &mut [u8],
-) -> Verdict {
-    let want = read_recorded(list, false);
-    judge(Way::Encode(mode), samples, p, &[], spoiled, room, want)
+) -> io::Result<Verdict>
+    ensures kept { OnErr result (room.new ≡ room.old) }
+{
+    let want = read_recorded(list, false)?;
+    Ok(judge(Way::Encode(mode), samples, p, &[], spoiled, room, want))
 }
 
 // The same, re-encoded with the old file as template.
-pub fn reencode(
-    list: i32,
+pub fn reencode<R: Read>(
+    list: &mut R,
     samples: &[u8],
     p: PcmSpec,
     old: &[u8],
     spoiled: usize,
     room: &mut [u8],
-) -> Verdict {
-    let want = read_recorded(list, false);
-    judge(Way::Reencode, samples, p, old, spoiled, room, want)
+) -> io::Result<Verdict>
+    ensures kept { OnErr result (room.new ≡ room.old) }
+{
+    let want = read_recorded(list, false)?;
+    Ok(judge(Way::Reencode, samples, p, old, spoiled, room, want))
 }

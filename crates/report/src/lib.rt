@@ -1,4 +1,6 @@
 // What programs print: words, numbers, refusals, what opening says.
+#![tactic(auto)]
+
 mod opened;
 mod text;
 

@@ -1,79 +1,73 @@
-// Words and numbers on standard output.
+// Words and numbers on standard output. A write that fails ends what is printed.
 use format::{Named, Place, Refusal, SampleFormat, Told};
-use libc::STDOUT_FILENO;
+use std::io;
 
 // Prints the text as it is.
-pub fn print(text: &[u8]) {
-    io::write_all(STDOUT_FILENO, text);
+pub fn print(rt: &impl Print, text: &[u8]) -> io::Result<()> {
+    rt.write_all(text)
 }
 
 // Prints the number in decimal.
-pub fn print_number(n: u64) {
-    io::print_decimal(STDOUT_FILENO, n);
+pub fn print_number(rt: &impl Print, n: u64) -> io::Result<()> {
+    rt.print(n)
 }
 
-// The bits are of two's complement: from 2^31 on the number is negative.
-fn print_signed(n: i16) {
-    let bits = sample::bits_of(n as i32);
-    if bits < 0x8000_0000 {
-        print_number(bits as u64);
-    } else {
-        print(b"-");
-        print_number(0x1_0000_0000 - bits as u64);
-    }
+// Prints the number in decimal, with its sign where it is negative.
+fn print_signed(rt: &impl Print, n: i16) -> io::Result<()> {
+    rt.print(n)
 }
 
 // Prints the name of the sample format.
-pub fn print_format(format: SampleFormat) {
+pub fn print_format(rt: &impl Print, format: SampleFormat) -> io::Result<()> {
     match format {
-        SampleFormat::Pcm => print(b"pcm"),
-        SampleFormat::Float => print(b"float"),
+        SampleFormat::Pcm => print(rt, b"pcm"),
+        SampleFormat::Float => print(rt, b"float"),
     }
 }
 
 // Prints the refusal's number: all that document 01's program prints of it.
-pub fn print_refusal(r: Refusal) {
-    print(b"refused ");
-    print_number(r.number() as u64);
+pub fn print_refusal(rt: &impl Print, r: Refusal) -> io::Result<()> {
+    print(rt, b"refused ")?;
+    print_number(rt, r.number() as u64)
 }
 
 // Prints what a refusal tells besides: 4 the bits word that was read, 36 the place of the value or difference in its
 // block.
-fn print_told(told: Told) {
+fn print_told(rt: &impl Print, told: Told) -> io::Result<()> {
     match told {
-        Told::Nothing => {}
+        Told::Nothing => Ok(()),
         Told::Bits(bits) => {
-            print(b" ");
-            print_signed(bits);
+            print(rt, b" ")?;
+            print_signed(rt, bits)
         }
         Told::Misfit(place) => {
-            print(b" ");
-            print_number(place as u64);
+            print(rt, b" ")?;
+            print_number(rt, place as u64)
         }
     }
 }
 
-fn print_group(group: u32) {
-    print(b", group ");
-    print_number(group as u64);
+fn print_group(rt: &impl Print, group: u32) -> io::Result<()> {
+    print(rt, b", group ")?;
+    print_number(rt, group as u64)
 }
 
 // Prints the place that is named.
-fn print_place(named: Named, place: Place) {
+fn print_place(rt: &impl Print, named: Named, place: Place) -> io::Result<()> {
     match named {
-        Named::NoGroup => {}
-        Named::TheGroup => print_group(place.group),
+        Named::NoGroup => Ok(()),
+        Named::TheGroup => print_group(rt, place.group),
         Named::TheBlock => {
-            print_group(place.group);
-            print(b", channel ");
-            print_number(place.channel as u64);
+            print_group(rt, place.group)?;
+            print(rt, b", channel ")?;
+            print_number(rt, place.channel as u64)
         }
     }
 }
 
 // Prints the refusal's number, what it tells besides, and where it is, of which so much is named.
-pub fn print_refused(r: Refusal, named: Named, place: Place) {
-    print_refusal(r);
-    print_told(r.told());
-    print_place(named, place);
+pub fn print_refused(rt: &impl Print, r: Refusal, named: Named, place: Place) -> io::Result<()> {
+    print_refusal(rt, r)?;
+    print_told(rt, r.told())?;
+    print_place(rt, named, place)
 }

@@ -1,4 +1,6 @@
 // A sample as its 32 bits, and sums and differences of samples, wrapped at 32 bits.
+#![tactic(auto)]
+
 ghost use Rattle.std.specs.Prelude.{◌≡◌};
 ghost use Rattle.format.specs.Numbers.{value, code_of, plus, minus};
 

@@ -1,5 +1,7 @@
 // Document 02, L7: numbers in groups of seven bits, low group first, high bit set on all but the last byte. Signed ones
 // are folded into numbers.
+#![tactic(auto)]
+
 mod folding;
 mod reading;
 mod writing;

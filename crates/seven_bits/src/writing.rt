@@ -6,7 +6,7 @@ ghost use Rattle.format.specs.SevenBits.{seven};
 ghost use Rattle.seven_bits.specs.Bytes.{sevens_of, bytes_of, Short};
 
 // A number in its groups: the first `len` of the bytes.
-#[derive(Drop)]
+#[derive(Clone, Copy)]
 pub struct Sevens {
     pub bytes: [u8; 5],
     pub len: usize,

@@ -1,5 +1,7 @@
 // Mid/side of two channels, both ways: undone in reading (decode_mid_side of block.rs), made in writing (transform of
 // writer.rs) where every frame has equal parity.
+#![tactic(auto)]
+
 mod frame;
 
 ghost use Rattle.std.specs.Prelude.{◌≡◌, true};

@@ -11,7 +11,7 @@ use lib.Signed.{mag}
 use mir.Syntax.{w32}
 use mir.Val.{to_z, of_z}
 use Rattle.format.specs.Lists.{joined, over}
-use Rattle.format.specs.Peaks.{from_pair, pair_of, pair_samples, pairs_from}
+use Rattle.format.specs.Peaks.{from_pair, pair_of, pairs_from}
 use Rattle.format.specs.declared.answers.Peak.{Peak}
 use Rattle.laws.proofs.Over.{over_none, length_over}
 use Rattle.laws.proofs.Summaries.{pairs_long}

@@ -1,5 +1,7 @@
 // Document 02, L7: a summary of peaks read, for a group and a channel or for all of them. Every refusal is found first;
 // then pairs are put, each as two samples.
+#![tactic(auto)]
+
 mod checking;
 mod numbers;
 mod putting;

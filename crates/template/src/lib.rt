@@ -1,4 +1,6 @@
 // Re-encoding: encode_pcm_with_template of writer.rs. Every refusal is found first; then the file is written.
+#![tactic(auto)]
+
 mod checking;
 mod writing;
 

@@ -1,5 +1,7 @@
 // What a writer is given, its settings and its samples, and the refusals of both: `validate` of writer.rs. 30: the
 // settings are not a writer's; 31: the last frame is incomplete; 32: a value is outside the depth; 33: too many frames.
+#![tactic(auto)]
+
 ghost use Rattle.std.specs.Prelude.{◌≡◌, List, [], ◌∷◌, not, ℕ, ◌/◌, ◌≤◌, length};
 ghost use Rattle.format.specs.Lists.{every, is_in};
 ghost use Rattle.format.specs.Units.{within, depth_of, frames_in};

@@ -1,5 +1,7 @@
 // The walk over a file, group by group: NcwReader of the Rust. The struct holds the lent bytes and the next group's
-// number. The borrow checker covers no function over such a struct, so `advance` does the work, on bytes and number.
+// number; `advance` does the work, on bytes and number.
+#![tactic(auto)]
+
 mod checking;
 mod one_group;
 
@@ -11,7 +13,7 @@ use format::{Answer, Outcome};
 pub use one_group::{decode_group, decode_group_lent};
 
 // What a step says, and the next group's number after it.
-#[derive(Drop)]
+#[derive(Clone, Copy)]
 pub struct Advanced {
     pub answer: Answer,
     pub next: u32,
@@ -46,7 +48,7 @@ fn advance(file: &[u8], next: u32, out: &mut [i32]) -> Advanced
 }
 
 // A file, and the number of the group that the next step reads.
-#[derive(Drop)]
+#[derive(Clone, Copy)]
 pub struct Walk<'a> {
     pub file: &'a [u8],
     pub next: u32,

@@ -1,4 +1,6 @@
 // Encoding: encode_pcm of writer.rs. Every refusal and the length are found first; then the file is written.
+#![tactic(auto)]
+
 mod checking;
 mod sizing;
 mod writing;

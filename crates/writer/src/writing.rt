@@ -67,9 +67,9 @@ fn write_groups(
     frames: Frames,
     out: &mut [u8],
 )
-    requires fact { let lent = lent_of which words.now bytes.now in
+    requires accepted { let lent = lent_of which words.now bytes.now in
         (Accepted p mode lent) × (frames.0 ≡ length lent / p.channels) }
-    requires fact_2 { let all = joined (encoded_group_at p mode (lent_of which words.now bytes.now)) (groups_of frames) in
+    requires room { let all = joined (encoded_group_at p mode (lent_of which words.now bytes.now)) (groups_of frames) in
         (length all < 4294967296) × (120 + 4 * (groups_of frames + 1) + length all ≤ length out.old) }
     ensures { let group = encoded_group_at p mode (lent_of which words.now bytes.now) in
         let groups = groups_of frames in

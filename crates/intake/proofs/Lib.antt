@@ -1,0 +1,2 @@
+-- what an input gives where its bytes are known
+pub mod Known

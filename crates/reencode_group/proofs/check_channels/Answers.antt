@@ -1,0 +1,29 @@
+use mathlib.Core.Path.{sym, ◌∙◌}
+use native.Mathlib.Omega.{arith}
+use borrow.Author.Rules.{rules}
+use Rattle.format.specs.declared.refusals.Refusal.TheVariants.{TemplateBytesLeft}
+use Rattle.laws.proofs.Templates.{template_ok}
+use Rattle.group.proofs.Checking.{passed_none, stops, more, bytes_left, all_fine}
+use Rattle.reencode_group.proofs.check_channels.Goals as goal
+
+pub loop-c-init : goal.loop-c-init
+loop-c-init c = (search rules, search rules, passed_none _ _ _)
+
+pub returns-in-No : goal.returns-in-No
+returns-in-No c =
+    stops c.loop-c.invariant.2 c.check_reencode_block.ensures TemplateBytesLeft c.in-No.is (omega arith) c.at_channel.ensures
+
+pub size_of-at-requires : goal.size_of-at-requires
+size_of-at-requires c = ((template_ok _ _ _ (sym c.check_reencode_block.ensures ∙ c.in_default.is)).head, search rules)
+
+pub loop-c-preserved : goal.loop-c-preserved
+loop-c-preserved c =
+    let e = c.in_default.is in
+    let s = c.check_reencode_block.ensures in
+    (search rules, search rules, more c.loop-c.invariant.2 s e (template_ok _ _ _ (sym s ∙ e)).sized c.size_of-at.ensures.0)
+
+pub returns-then-at-bs : goal.returns-then-at-bs
+returns-then-at-bs c = bytes_left c.loop-c.invariant.2 (omega arith) TemplateBytesLeft c.if-at-bs.true
+
+pub returns : goal.returns
+returns c = all_fine c.loop-c.invariant.2 (omega arith) TemplateBytesLeft (omega arith)
