@@ -1,4 +1,4 @@
-# The archive's code without its proof, so that faults can be planted in it: `rt staticlib` makes no archive of code
+# The archive's code without its proof, so that faults can be planted in it: `rt lib` makes no archive of code
 # that is wrong. It is not for callers. host/machine.sh and host/retarget.sh are sourced first.
 
 # The host boundary's functions by name and arguments, as Rattle has them: b are bytes, m bytes that are lent for

@@ -54,7 +54,7 @@ fn own_names() -> String {
 }
 
 fn uses(module: &str, defined: &[String]) -> String {
-    format!("use Rattle·format.specs.{module}.{{{}}}", defined.join(", "))
+    format!("use Rattle.format.specs.{module}.{{{}}}", defined.join(", "))
 }
 
 /// The cases of the enum, and the type of what each holds: the bits word of 4, the place of 36.
@@ -69,9 +69,9 @@ fn refusals(text: &str) -> Vec<(String, Option<String>)> {
 /// As an integer, whatever it is.
 fn word_in(name: &str, held: Option<&str>) -> String {
     match held {
-        None => format!("wordIn {name} = pos 0"),
-        Some("i16") => format!("wordIn ({name} b) = b"),
-        Some("u16") => format!("wordIn ({name} p) = pos p"),
+        None => format!("word_in {name} = pos 0"),
+        Some("i16") => format!("word_in ({name} b) = b"),
+        Some("u16") => format!("word_in ({name} p) = pos p"),
         Some(held) => panic!("{name} holds {held}"),
     }
 }
@@ -79,16 +79,13 @@ fn word_in(name: &str, held: Option<&str>) -> String {
 // ---- the cases
 
 const HEAD: &str = "\
-use mathlib.Core.Path.{_≡_, refl}
-use mathlib.Core.Bool.{Bool, true, false, _&&_}
-use mathlib.Core.List.{List, [], _∷_}
-use Prim.Native.Nat.{ℕ}
-use lib.IntN.{ℤ, pos, negsuc}
-use Rattle·format.specs.declared.settings.StereoMode.the-variants.{Auto, Direct, MidSide}
-use Rattle·asked·proofs.proofs.Tests.{octets, quads, spec, everything}
-use Rattle·asked·proofs.proofs.Tests.{opens, opensNot, decodes, decodesNot, encodes, encodesNot, reencodes, reencodesNot}
-use Rattle·asked·proofs.proofs.Tests.{reads, readsNot, host-reads, host-readsNot}
-use Rattle·asked·proofs.proofs.Tests.{host-opens, host-opensNot, host-decodes, host-decodesNot, host-encodes, host-encodesNot, host-reencodes, host-reencodesNot}
+use Rattle.std.specs.Prelude.{◌≡◌, refl, Bool, true, false, ◌&&◌, List, [], ◌∷◌, ℕ, ℤ, pos, negsuc}
+use Rattle.format.specs.declared.settings.StereoMode.TheVariants.{Auto, Direct, MidSide}
+use Rattle.asked.proofs.Tests.{octets, quads, spec, everything}
+use Rattle.asked.proofs.Tests.{opens, opens_not, decodes, decodes_not, encodes, encodes_not, reencodes, reencodes_not}
+use Rattle.asked.proofs.Tests.{reads, reads_not, host_reads, host_reads_not, host_opens, host_opens_not}
+use Rattle.asked.proofs.Tests.{host_decodes, host_decodes_not, host_encodes, host_encodes_not}
+use Rattle.asked.proofs.Tests.{host_reencodes, host_reencodes_not}
 ";
 
 /// The boundary is asked in one case of so many, up to so many samples: its definitions go through bytes one by one.
@@ -99,8 +96,8 @@ const MOST_AT_HOST: usize = 100;
 pub fn module(cases: &[Numbered], outcome: bool) -> String {
     let theorem = |(k, question, answer): &Numbered| {
         let test = test(question, answer, &ranges(*k, question), k % ONE_AT_HOST == 0);
-        let proof = format!("pub case-{k} : test-{k} ≡ {outcome}\nunfolding everything\ncase-{k} = refl\n");
-        format!("\nabbrev test-{k} : Bool\ntest-{k} =\n{test}\n\n{proof}")
+        let proof = format!("pub case_{k} : test_{k} ≡ {outcome}\nunfolding everything\ncase_{k} = refl\n");
+        format!("\nabbrev test_{k} : Bool\ntest_{k} =\n{test}\n\n{proof}")
     };
     cases.iter().fold(String::from(HEAD), |text, case| text + &theorem(case))
 }
@@ -111,12 +108,12 @@ fn test(question: &Question, answer: &Answer, ranges: &[Range], host_too: bool) 
         Answer::Refused(number, word) => {
             let refused = refused(question, *number, *word);
             let plain = format!("{number} {} {} {}", integer(*word), refused.group, refused.channel);
-            ("Not", plain, at_host(question, refused))
+            ("_not", plain, at_host(question, refused))
         }
         _ => ("", "e".to_string(), "e".to_string()),
     };
     let host =
-        if host_too && few(question, answer) { format!(" && host-{name}{end} {host} {call}") } else { String::new() };
+        if host_too && few(question, answer) { format!(" && host_{name}{end} {host} {call}") } else { String::new() };
     let frames = ranges.iter().map(|range| few_frames(range, host_too)).collect::<String>();
     format!("{}{}    {name}{end} {plain} {call}{host}{frames}", inputs(question), expected(question, answer))
 }
@@ -127,10 +124,10 @@ fn few_frames((first, count, said): &Range, host_too: bool) -> String {
     let (end, plain, host) = match said {
         Ok(samples) => ("", format!("({})", quads(samples)), format!("({})", quads(samples))),
         Err(Refused { number, told, group, channel }) => {
-            ("Not", format!("{number} {} {group} {channel}", integer(*told as i16)), number.to_string())
+            ("_not", format!("{number} {} {group} {channel}", integer(*told as i16)), number.to_string())
         }
     };
-    let host = if host_too { format!(" && host-reads{end} {host} {call}") } else { String::new() };
+    let host = if host_too { format!(" && host_reads{end} {host} {call}") } else { String::new() };
     format!(" && reads{end} {plain} {call}{host}")
 }
 

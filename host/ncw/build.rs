@@ -4,7 +4,7 @@ use std::fs;
 use std::path::{Path, PathBuf};
 use std::process::exit;
 
-const HOW: &str = "Run `rt staticlib ncw` at the top of the repository, or name the folder of libncw.a in NCW_ARCHIVE.";
+const HOW: &str = "Run `host/archive` of the repository, or name the folder of libncw.a in NCW_ARCHIVE.";
 
 fn main() {
     println!("cargo:rerun-if-env-changed=NCW_ARCHIVE");
@@ -20,10 +20,10 @@ fn main() {
     }
 }
 
-/// Where `rt staticlib` puts the archive, which is for one kind of machine.
+/// Where `host/archive` puts the archive, which is for one kind of machine.
 fn built_here() -> PathBuf {
     if env::var("CARGO_CFG_TARGET_ARCH").as_deref() != Ok("x86_64") {
-        stop("The archive of `rt staticlib ncw` is for x86-64: build with `--target x86_64-unknown-linux-gnu`.");
+        stop("The archive of `host/archive` is for x86-64: build with `--target x86_64-unknown-linux-gnu`.");
     }
     Path::new(&env::var_os("CARGO_MANIFEST_DIR").unwrap_or_default()).join("../../target/staticlib")
 }
