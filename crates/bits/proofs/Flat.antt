@@ -81,12 +81,6 @@ module _ (b raw h p m : ℕ) (l : 1 ≤ b) (u : b ≤ 32) (half : h ≡ 2 ^ (b -
   value_64 : SFits w64 (value b c)
   value_64 = record { sfits = lt_of_lt_of_le (value_holds b c l small) (pow_mono {j = 63} (omega arith)) }
 
-  -- the difference fits, as 64 bits it fits 32, and as 32 it is the value
-  pub flat_64 : SFits w64 (to_z w64 up -ℤ to_z w64 h)
-  flat_64 = rw flat_is value_64
-
-  pub flat_32 : SFits w32 (to_z w64 (of_z w64 (to_z w64 up -ℤ to_z w64 h)))
-  flat_32 = rw (flat_is, to_z-of_z w64 (value b c) value_64) (value_32 b c l u small)
-
+  -- the difference fits 64 bits, and 32, where it is the value
   pub flat_value : to_z w32 (of_z w32 (to_z w64 (of_z w64 (to_z w64 up -ℤ to_z w64 h)))) ≡ value b c
   flat_value = rw (flat_is, to_z-of_z w64 (value b c) value_64) (to_z-of_z w32 (value b c) (value_32 b c l u small))

@@ -1,24 +1,15 @@
 -- The bits of a run at a place, what a window shows of them, and what is read there.
-use Rattle.std.proofs.Common.{◌≡◌, ℕ, zero, suc, ◌+◌, ◌-◌, ◌*◌, ◌/◌, ◌%◌, ◌^◌, ◌<◌, ◌≤◌, min, List, [], ◌∷◌, length, get_or, take, drop, ℤ, sym, ap, ◌∙◌, ap₂, mod-lt, mod-eq_of_lt, zero-lt-suc, one-mul, pow-suc, arith, pow_pos, shr-shr, w8, w32, Fits, to_z, of_z}
+use Rattle.std.proofs.Common.{◌≡◌, ℕ, zero, suc, ◌+◌, ◌-◌, ◌*◌, ◌/◌, ◌%◌, ◌^◌, ◌<◌, ◌≤◌, min, List, [], ◌∷◌, length, get_or, take, drop, ℤ, sym, ap, ◌∙◌, ap₂, mod-lt, zero-lt-suc, pow-suc, arith, pow_pos, shr-shr, w8, w32, Fits, to_z, of_z}
 use native.Mathlib.Nat.{mod-one, zero-mod, one-le-pow, pow-zero}
 use lib.Arith.{digits_div, digits_mod, mod-mul}
-use lib.Pow.{pow-lt, field, mod-mod-pow}
+use lib.Pow.{field, mod-mod-pow}
 use mir.ValLaws.{to_z-of_z}
 use Rattle.format.specs.Lists.{from}
 use Rattle.format.specs.Numbers.{num, num_at, value, Below}
 use Rattle.laws.proofs.Digits.{pow_mul, num_drop}
 use Rattle.laws.proofs.Each.{each_drop}
-use Rattle.bits.specs.Place.{bits_at, Window, Read, ReadTwo, two}
-use Rattle.bits.specs.declared.Next.{Next}
-use Rattle.bits.specs.declared.Pair.{Pair}
+use Rattle.bits.specs.Place.{bits_at, Window}
 use Rattle.bits.proofs.Flat.{value_32}
-
--- ---- powers that fit a machine word
-pub one_shl : (k : ℕ) → k < 64 → (1 * 2 ^ k) % 2 ^ 64 ≡ 2 ^ k
-one_shl k h = ap (λ (x : ℕ). x % 2 ^ 64) (one-mul (2 ^ k)) ∙ mod-eq_of_lt (pow-lt h)
-
-pub pow_positive : (p w : ℕ) → p ≡ 2 ^ w → 0 < p
-pow_positive p w e = rw e (pow_pos w)
 
 -- ---- eight bytes as bits
 num_low : (s : List ℕ) → Below 256 s → (n : ℕ) → num 256 s % 256 ^ n ≡ num 256 (take n s)
@@ -74,12 +65,3 @@ module _ (s : List ℕ) (p w x : ℕ) (v : ℤ) (l : 1 ≤ w) (u : w ≤ 32) (sh
       ∙ ap (value w)
       (sym (bits_within x w w (2 * w) both) ∙ ap (λ (y : ℕ). y / 2 ^ w % 2 ^ w) (shown (2 * w) k f) ∙ bits_within (num 256 s / 2 ^ p) w w (2 * w) both
       ∙ ap (λ (y : ℕ). y % 2 ^ w) (shr-shr (num 256 s) p w))
-
-pub read_each : (s : List ℕ) (p w : ℕ) (a b : Next) (n : Pair) → Read s p w a → Read s a.cursor.bit w b → n ≡ two a b → ReadTwo s p w n
-read_each s p w a b n q r e =
-    rw e
-    (record {
-      first = q.means;
-      second = r.means ∙ ap (λ (x : ℕ). value w (bits_at (num 256 s) x w)) q.moved;
-      moved = omega (arith, q.moved, r.moved);
-    })

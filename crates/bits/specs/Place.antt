@@ -23,10 +23,6 @@ pub record Room (s : List ℕ) (p w : ℕ) : Type 0 where
 abbrev pub Window : List ℕ → ℕ → ℕ → Type 0
 Window s p x = (n : ℕ) → n ≤ 57 → p + n ≤ length s * 8 → x % 2 ^ n ≡ bits_at (num 256 s) p n
 
--- a value and the one after it
-abbrev pub two : Next → Next → Pair
-two a b = record { first = a.value; second = b.value; cursor = b.cursor }
-
 -- what is read at bit p: the value of the w bits there, and the cursor past them
 pub record Read (s : List ℕ) (p w : ℕ) (r : Next) : Type 0 where
   pub means : r.value ≡ value w (bits_at (num 256 s) p w)

@@ -1,10 +1,10 @@
 // Packed values, least significant bit first: bits.rs of the Rust.
 #![tactic(auto)]
 
-ghost use Rattle.std.specs.Prelude.{◌≡◌, ◌+◌, ◌*◌, ◌%◌, ◌^◌, ◌<◌, ◌≤◌, min, length, pos, slice_index_or};
+ghost use Rattle.std.specs.Prelude.{◌≡◌, ◌+◌, ◌*◌, ◌%◌, ◌^◌, ◌<◌, ◌≤◌, length, pos, slice_index_or};
 ghost use Rattle.format.specs.Numbers.{value};
 ghost use Rattle.format.specs.Packed.{values};
-ghost use Rattle.bits.specs.Place.{WholeRun, Room, Window, Read, ReadTwo, two};
+ghost use Rattle.bits.specs.Place.{WholeRun, Room, Window, Read, ReadTwo};
 
 use format::Depth;
 use le_bytes::read_u64_le;
@@ -39,33 +39,15 @@ pub fn pow2(k: u32) -> u64
 }
 
 // The number that the lowest `bits` bits of raw mean: a code below half of 2 ^ bits is itself, any other that less
-// 2 ^ bits.
+// 2 ^ bits. By sums, since a branch or a shift to the top and back is slower in the loops over values.
+#[tactic(auto, using(crate::proofs::Flat::flat_value))]
 pub fn sign_extend(raw: u64, bits: u32) -> i32
     requires { (1 ≤ bits) × (bits ≤ 32) }
     ensures { result ≡ value bits (raw % 2 ^ bits) }
 {
     let half = pow2(bits - 1);
-    let up = std::num::wrapping_add_u64(raw, half) % pow2(bits);
+    let up = raw.wrapping_add(half) % pow2(bits);
     (up as i64 - half as i64) as i32
-}
-
-// Two values that are read one by one, as a pair.
-fn two(a: Next, b: Next) -> Pair
-    ensures { result ≡ two a b }
-{
-    let cursor = b.cursor;
-    Pair {
-        first: a.value,
-        second: b.value,
-        cursor,
-    }
-}
-
-// The lesser of the two, compiled as a choice of numbers: the loops over a run have no branch but their own end.
-fn least(a: usize, b: usize) -> usize
-    ensures { result ≡ min a b }
-{
-    if a < b { a } else { b }
 }
 
 impl Cursor {
@@ -87,11 +69,12 @@ impl Cursor {
     }
 
     // The bits from the cursor's place on, lowest first: 57 of them, or as many as there are.
+    #[tactic(auto, using(crate::proofs::Steps::shows))]
     fn window(self, run: &[u8]) -> u64
         requires { (8 ≤ length run.now) × (self.bit < length run.now * 8) }
         ensures { Window run.now self.bit result }
     {
-        let at = least(self.bit / 8, run.len() - 8);
+        let at = (self.bit / 8).min(run.len() - 8);
         read_u64_le(run, at) >> (self.bit - 8 * at)
     }
 
@@ -121,31 +104,34 @@ impl Cursor {
             };
         }
         let a = self.next(run, bits);
-        two(a, a.cursor.next(run, bits))
+        let b = a.cursor.next(run, bits);
+        Pair {
+            first: a.value,
+            second: b.value,
+            cursor: b.cursor,
+        }
     }
 }
 
 // The 512 values of a packed run, of `bits` bits each.
+#[tactic(auto, using(crate::proofs::Run::turn))]
 pub fn packed_values(run: &[u8], bits: u32) -> [i32; 512]
     requires { WholeRun run.now bits }
     ensures { result ≡ values bits run.now }
 {
     let mut out = [0i32; 512];
     let mut cursor = Cursor::start();
-    let mut k: usize = 0;
-    while k < Depth::SAMPLES_PER_BLOCK {
+    for i in 0..Depth::SAMPLES_PER_BLOCK / 2 {
         let p = cursor.pair(run, bits);
-        let v = p.first;
-        let w = p.second;
-        out[k] = v;
-        out[k + 1] = w;
+        out[2 * i] = p.first;
+        out[2 * i + 1] = p.second;
         cursor = p.cursor;
-        k += 2;
     }
     out
 }
 
 // The last of them alone: the difference that no sample needs, which re-encoding keeps.
+#[tactic(auto, using(crate::proofs::Run::last_value))]
 pub fn last_value(run: &[u8], bits: u32) -> i32
     requires { WholeRun run.now bits }
     ensures { result ≡ slice_index_or (values bits run.now) 511 (pos 0) }
@@ -153,6 +139,5 @@ pub fn last_value(run: &[u8], bits: u32) -> i32
     let cursor = Cursor {
         bit: 511 * bits as usize,
     };
-    let last = cursor.next(run, bits);
-    last.value
+    cursor.next(run, bits).value
 }

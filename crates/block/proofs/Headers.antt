@@ -1,49 +1,33 @@
 -- A block's header as it is read, and the block's length.
-use Prim.Native.Nat.{ℕ, zero, suc, ◌+◌, ◌*◌, ◌%◌, ◌^◌, ◌<◌, ◌≤◌}
-use mathlib.Core.Path.{◌≡◌, refl, sym, ap, ◌∙◌, subst}
+use Prim.Native.Nat.{ℕ, zero, suc, ◌+◌, ◌*◌, ◌/◌, ◌%◌, ◌^◌, ◌<◌, ◌≤◌}
+use mathlib.Core.Path.{◌≡◌, refl, ap, ◌∙◌}
 use mathlib.Core.Bool.{Bool, true, false, cond}
 use mathlib.Core.List.{List}
-use native.Mathlib.Nat.{mod-eq_of_lt}
 use native.Mathlib.Omega.{arith}
 use lib.IntN.{ℤ, pos, negsuc}
-use lib.Signed.{mag}
-use lib.Dec.{leb}
-use mir.Syntax.{w16, w32}
-use mir.Val.{SFits, to_z, of_z}
+use lib.ListN.{get_or}
+use lib.Dec.{leb, eqb}
+use mir.Syntax.{w8, w16, w32}
+use mir.Val.{Fits, SFits, to_z, of_z}
 use mir.ValLaws.{to_z-of_z}
+use Rattle.std.proofs.lemmas.Int.{of_z-to_z}
+use Rattle.laws.proofs.Chain.{stages}
 use borrow.Author.Tests.{leb-true}
-use Rattle.format.specs.Numbers.{num_at, value}
+use Rattle.format.specs.Numbers.{num_at}
 use Rattle.format.specs.Packed.{coding, width_of}
-use Rattle.format.specs.Blocks.{base_of, bits_of, coding_of, size_of}
+use Rattle.format.specs.Blocks.{base_of, bits_of, mid_bit, float_bit, coding_of, size_of}
 use Rattle.format.specs.declared.packed.Coding.{Coding}
 use Rattle.format.specs.declared.packed.Coding.TheVariants.{Differences, Raw, Beyond}
-use Rattle.laws.proofs.Signs.{value_holds}
+use Rattle.laws.proofs.Signs.{value_is, value_holds}
+use Rattle.laws.proofs.Reading.{number_lt}
 use Rattle.block.specs.Read.{block_header}
 use Rattle.block.specs.declared.BlockHeader.{BlockHeader}
 
--- a word of 16 bits, as 32 bits give it
-module _ (t : ℤ) (m : ℕ) (small : m < 2 ^ 16) (given : t ≡ value 16 (m % 2 ^ 16)) where
-  e : t ≡ value 16 m
-  e = given ∙ ap (value 16) (mod-eq_of_lt small)
-
-  short : mag t < 2 ^ 15
-  short = subst (λ (z : ℤ). mag z < 2 ^ 15) (sym e) (value_holds 16 m (omega arith) small)
-
-  wide : to_z w32 (of_z w32 t) ≡ t
-  wide = to_z-of_z w32 t (record { sfits = omega (arith, short) })
-
-  pub word_fits : SFits w16 (to_z w32 (of_z w32 t))
-  word_fits = rw wide (record { sfits = short })
-
-  pub word_is : to_z w16 (of_z w16 (to_z w32 (of_z w32 t))) ≡ value 16 m
-  word_is = rw wide (to_z-of_z w16 t (record { sfits = short }) ∙ e)
-
-pub header_is : (s : List ℕ) (z t : ℤ) (n m f : ℕ) → mag z < 2 ^ 31 → z ≡ value 32 (n % 2 ^ 32) → n < 2 ^ 32 → n ≡ num_at 4 4 s → m < 2 ^ 16 → t ≡ value 16 (m % 2 ^ 16) → m ≡ num_at 8 2 s → f ≡ num_at 10 2 s
-    → ◌≡◌ {A = BlockHeader} (record { base = to_z w32 (of_z w32 z); bits = to_z w16 (of_z w16 (to_z w32 (of_z w32 t))); flags = f }) (block_header s)
+-- the fields as the code reads them
+pub header_is : (s : List ℕ) → num_at 4 4 s < 2 ^ 32 → num_at 8 2 s < 2 ^ 16
+    → block_header s ≡ record { base = to_z w32 (of_z w32 (to_z w32 (num_at 4 4 s))); bits = to_z w16 (of_z w16 (to_z w16 (num_at 8 2 s))); flags = num_at 10 2 s }
 unfolding block_header base_of bits_of
-header_is s z t n m f fits a l b small c d e =
-    let whole : z ≡ value 32 n = a ∙ ap (value 32) (mod-eq_of_lt l) in
-    rw (to_z-of_z w32 z (record { sfits = fits }), word_is t m small c, whole, b, d, e)
+header_is s f g = rw (of_z-to_z w32 _ f, of_z-to_z w16 _ g, value_is 32 _ f, value_is 16 _ g)
 
 -- ---- the length
 width_by : (n : ℕ) (x : Coding) → width_of x ≡ n → (t : Bool) → leb n 32 ≡ t → width_of (cond t x Beyond) ≤ 32
@@ -72,5 +56,33 @@ module _ (depth : ℕ) (r : List ℕ) (b : BlockHeader) (header : b ≡ block_he
       unfolding size_of
       size_is = ap (λ (n : ℕ). 16 + 64 * n) (wide ∙ ap width_of coding_is)
 
-      pub size_most : depth ≤ 32 → 16 + 64 * w ≤ 2064
-      size_most h = let e : width_of k ≤ 32 = rw coded (width_most depth _ h) in omega arith
+-- ---- what is read of a header that a local holds
+module _ (r : List ℕ) where
+  pub float_is : eqb ((block_header r).flags / 2 % 2) 1 ≡ float_bit r
+  unfolding float_bit block_header
+  float_is = refl
+
+  pub mid_is : eqb ((block_header r).flags % 2) 1 ≡ mid_bit r
+  unfolding mid_bit block_header
+  mid_is = refl
+
+  module _ (bytes : (i : ℕ) → Fits w8 (get_or r i 0)) where
+    pub base_is : to_z w32 (of_z w32 (block_header r).base) ≡ base_of r
+    unfolding block_header base_of
+    base_is = to_z-of_z w32 _ (record { sfits = value_holds 32 (num_at 4 4 r) (omega arith) (number_lt 4 4 r (λ i. (bytes i).fits)) })
+
+    pub word_is : to_z w16 (of_z w16 (block_header r).bits) ≡ bits_of r
+    unfolding block_header bits_of
+    word_is = to_z-of_z w16 _ (record { sfits = value_holds 16 (num_at 8 2 r) (omega arith) (number_lt 8 2 r (λ i. (bytes i).fits)) })
+
+    pub coded : (depth : ℕ) → coding depth (to_z w16 (of_z w16 (block_header r).bits)) ≡ coding_of depth r
+    unfolding coding_of
+    coded depth = ap (coding depth) word_is
+
+  pub sized : (depth : ℕ) → size_of depth r ≡ 16 + 64 * width_of (coding_of depth r)
+  unfolding size_of
+  sized depth = refl
+
+pub ruleset sizes = (coded, sized, width_most)
+
+pub ruleset checks = (stages, float_is, mid_is, word_is, coded)

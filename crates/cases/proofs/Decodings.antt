@@ -4,12 +4,11 @@ use mathlib.Core.Path.{◌≡◌, refl}
 use mathlib.Core.List.{List, [], ◌∷◌, ◌++◌}
 use lib.ListN.{replicate}
 use lib.IntN.{ℤ, pos, negsuc}
-use Rattle.format.specs.Refusals.{nowhere}
+use Rattle.format.specs.Refusals.{No, nowhere}
 use Rattle.format.specs.Answers.{refused_by, read}
 use Rattle.format.specs.Packed.{packing}
 use Rattle.format.specs.Decoding.{check_decode, decode_of, decode_into}
 use Rattle.format.specs.Encoding.{block_bytes}
-use Rattle.format.specs.declared.refusals.Checked.TheVariants.{No}
 use Rattle.format.specs.declared.refusals.Refusal.TheVariants.{BitsWord, BytesLeft, OutputTooShort}
 use Rattle.format.proofs.Made.{document_01, decodes_to, said, said_at, block, laid, changed, five}
 

@@ -4,13 +4,12 @@ use mathlib.Core.Path.{◌≡◌, refl}
 use mathlib.Core.List.{List, [], ◌∷◌, ◌++◌}
 use lib.ListN.{take, replicate}
 use lib.IntN.{ℤ, pos, negsuc}
-use Rattle.format.specs.Refusals.{nowhere}
+use Rattle.format.specs.Refusals.{No, nowhere}
 use Rattle.format.specs.Answers.{refused_by, wrote}
 use Rattle.format.specs.Packed.{packing}
 use Rattle.format.specs.Encoding.{block_bytes, encoded_file}
 use Rattle.format.specs.Reencoding.{check_reencode, reencoded_file, reencode_of, reencode_into}
 use Rattle.format.specs.declared.refusals.Place.{Place}
-use Rattle.format.specs.declared.refusals.Checked.TheVariants.{No}
 use Rattle.format.specs.declared.refusals.Refusal.TheVariants.{BitsWord, WidthTooSmall, OutputTooShort}
 use Rattle.format.specs.declared.settings.StereoMode.TheVariants.{MidSide}
 use Rattle.format.proofs.Made.{document_01, decodes_to, reencodes_to, said, said_after, pcm, laid, changed, five, block}

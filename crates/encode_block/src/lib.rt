@@ -13,17 +13,17 @@ use le_bytes::{put_u16_le, put_u32_le};
 
 // The length of the block of 512 samples: its differences at their width where that is under the depth, otherwise the
 // samples at the depth. The choice is the original's, and no reproduction of the vendor's.
+#[tactic(auto, using(crate::proofs::Laws::size))]
 pub fn block_size(xs: [i32; 512], depth: u16) -> usize
     requires { depth ≤ 32 }
     ensures { ((flags : ℕ) → result ≡ length (encoded_block depth flags xs)) × (result ≤ 2064) }
 {
-    let w = packing::width(packing::deltas(xs));
-    let d = depth as u32;
-    let b = if w < d { w } else { d };
-    Depth::BLOCK_HEADER_SIZE + 64 * b as usize
+    let width = packing::width(packing::deltas(xs)).min(depth as u32);
+    Depth::BLOCK_HEADER_SIZE + 64 * width as usize
 }
 
 // A block's first 16 bytes; bits is the bits word as it is written.
+#[tactic(auto, using(crate::proofs::Laws::header_put))]
 fn put_header(out: &mut [u8], base: i32, bits: u16, flags: u16)
     requires { 16 ≤ length out.old }
     ensures { out.new ≡ over (front base bits flags) out.old }
@@ -36,6 +36,7 @@ fn put_header(out: &mut [u8], base: i32, bits: u16, flags: u16)
 }
 
 // A header and the packed values after it, at the front of what is lent, and their length.
+#[tactic(auto, using(crate::proofs::Laws::block_put))]
 fn put_block(
     out: &mut [u8],
     base: i32,
@@ -51,11 +52,13 @@ fn put_block(
 {
     let end = Depth::BLOCK_HEADER_SIZE + 64 * width as usize;
     put_header(out, base, bits, flags);
-    packing::pack(values, width, &mut out[Depth::BLOCK_HEADER_SIZE..end]);
+    // the width holds the values, so nothing is refused
+    packing::pack(values, width, &mut out[Depth::BLOCK_HEADER_SIZE..end]).unwrap();
     end
 }
 
 // Writes the block of 512 samples to the front of what is lent: its length.
+#[tactic(auto, using(crate::proofs::Laws::block_is))]
 pub fn encode_block(out: &mut [u8], xs: [i32; 512], depth: u16, flags: u16) -> usize
     requires { (1 ≤ depth) × (depth ≤ 32) × (every (holds depth) xs ≡ true)
         × (length (encoded_block depth flags xs) ≤ length out.old) }
@@ -69,5 +72,5 @@ pub fn encode_block(out: &mut [u8], xs: [i32; 512], depth: u16, flags: u16) -> u
     if w < d {
         return put_block(out, base, w as u16, flags, ds, w);
     }
-    put_block(out, base, (65536 - d) as u16, flags, xs, d)
+    put_block(out, base, depth.wrapping_neg(), flags, xs, d)
 }

@@ -1,6 +1,6 @@
 -- Groups of lent samples: what a mode takes, and that all of it can be written.
 use Prim.Native.Nat.{ℕ, ◌+◌, ◌-◌, ◌*◌, ◌≤◌, ◌<◌}
-use mathlib.Core.Path.{◌≡◌, refl, sym, ap, ap₂, ◌∙◌}
+use mathlib.Core.Path.{◌≡◌, refl, sym, ap, ◌∙◌}
 use mathlib.Core.Bool.{Bool, true, false, ◌&&◌, not}
 use mathlib.Core.List.{List, []}
 use native.Mathlib.Omega.{arith}
@@ -9,9 +9,9 @@ use lib.Dec.{eqb, ltb}
 use lib.ListN.{length, get_or}
 use lib.Pow.{pow_pos}
 use borrow.Author.Tests.{ne_eqb}
-use Rattle.format.specs.Lists.{over, every}
+use Rattle.format.specs.Lists.{every}
 use Rattle.format.specs.Numbers.{holds}
-use Rattle.format.specs.Encoding.{channel, padded, padded_channels, encoded_block, blocks, mid_side, parity, takes_mid, encoded_group, is_mid_side}
+use Rattle.format.specs.Encoding.{channel, padded, padded_channels, blocks, mid_side, parity, takes_mid, encoded_group, is_mid_side}
 use Rattle.format.specs.declared.settings.PcmSpec.{PcmSpec}
 use Rattle.format.specs.declared.settings.StereoMode.{StereoMode}
 use Rattle.format.specs.declared.settings.StereoMode.TheVariants.{Auto, Direct, MidSide}
@@ -22,35 +22,12 @@ use Rattle.laws.proofs.Each.{each_from}
 use Rattle.laws.proofs.Signs.{Holds, AllHold, every_holds, holds_every}
 use Rattle.laws.proofs.Channels.{Level, padded_holds, padded_channels_level}
 use Rattle.laws.proofs.Stereo.{both_level}
-use Rattle.encode_group.specs.Choice.{sizes_of, auto_takes, takes_of}
+use Rattle.encode_group.specs.Choice.{auto_takes, takes_of}
 use Rattle.encode_group.specs.Writable.{Writable}
-use Rattle.encode_group.specs.declared.Sizes.{Sizes}
 use Rattle.laws.proofs.Stereo.{parity_padded}
-use Rattle.encode_group.proofs.Blocks.{pair_count_lem}
-
--- ---- the lengths of two channels' blocks
-pub pair_size : (depth : ℕ) (a : List (List ℤ)) (x y : ℕ) → length a ≡ 2 → ((flags : ℕ) → x ≡ length (encoded_block depth flags (get_or a 0 []))) → ((flags : ℕ) → y ≡ length (encoded_block depth flags (get_or a 1 [])))
-    → (flags : ℕ) → x + y ≡ length (blocks depth flags a)
-pair_size depth a x y two f g flags = pair_count_lem depth flags a two x y (f flags) (g flags)
-
-pub sizes_are : (depth : ℕ) (a b : List (List ℤ)) (x y : ℕ) → b ≡ mid_side a → ((flags : ℕ) → x ≡ length (blocks depth flags a)) → ((flags : ℕ) → y ≡ length (blocks depth flags b))
-    → ◌≡◌ {A = Sizes} (record { direct = x; mid_side = y }) (sizes_of depth a)
-sizes_are depth a b x y e f g = ap₂ (λ (m n : ℕ). record { direct = m; mid_side = n }) (f 0) (g 1 ∙ ap (λ (c : List (List ℤ)). length (blocks depth 1 c)) e)
+use Rattle.encode_group.proofs.Blocks.{nexts}
 
 -- ---- what a mode takes
-pub parity_known : (a : List (List ℤ)) (t : Bool) → t ≡ parity a → t ≡ true → parity a ≡ true
-parity_known a t even h = sym even ∙ h
-
-module _ (depth : ℕ) (a : List (List ℤ)) (t : Bool) (even : t ≡ parity a) where
-  pub auto_smaller : (s : Sizes) → s ≡ sizes_of depth a → t ≡ true → ltb s.mid_side s.direct ≡ auto_takes depth a
-  unfolding auto_takes
-  auto_smaller s e h =
-      ap (λ (z : Sizes). ltb z.mid_side z.direct) e ∙ ap (λ (b : Bool). b && ltb (sizes_of depth a).mid_side (sizes_of depth a).direct) (sym h ∙ even)
-
-  pub auto_not : t ≡ false → false ≡ auto_takes depth a
-  unfolding auto_takes
-  auto_not h = ap (λ (b : Bool). b && ltb (sizes_of depth a).mid_side (sizes_of depth a).direct) (sym h ∙ even)
-
 takes_are : (mode : StereoMode) (depth : ℕ) (s : List ℤ) → takes_of mode depth (padded_channels 2 s) ≡ takes_mid mode 2 depth s
 unfolding takes_of auto_takes takes_mid
 takes_are Direct depth s = refl
@@ -147,13 +124,6 @@ module _ (p : PcmSpec) (mode : StereoMode) (first n : ℕ) (s : List ℤ) (w : W
         pub size_mid : t ≡ true → (b : List (List ℤ)) → b ≡ mid_side a → (r : ℕ) → ((flags : ℕ) → r ≡ length (blocks depth flags b)) → r ≡ length (encoded_group p mode frames)
         size_mid h b both r e = e 1 ∙ ap length (group_mid h b both)
 
--- ---- blocks that are the group g: their room, their length, and what is written
-module _ (depth flags : ℕ) (b : List (List ℤ)) (g : List ℕ) where
-  pub group_fits : (room : ℕ) → length g ≤ room → blocks depth flags b ≡ g → length (blocks depth flags b) ≤ room
-  group_fits room h e = rw e h
+pub ruleset groups = (taken_even, mid_holds, direct_holds, group_mid, group_direct, group_other, as_direct)
 
-  pub group_count : (r : ℕ) → r ≡ length (blocks depth flags b) → blocks depth flags b ≡ g → r ≡ length g
-  group_count r h e = h ∙ ap length e
-
-  pub group_written : (o out : List ℕ) → o ≡ over (blocks depth flags b) out → blocks depth flags b ≡ g → o ≡ over g out
-  group_written o out h e = h ∙ ap (λ (z : List ℕ). over z out) e
+pub ruleset channels = (channel_holds, nexts)

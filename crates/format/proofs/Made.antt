@@ -1,4 +1,5 @@
 -- What the tables of cases are made of: small files, and all definitions opened, so that computing decides a case.
+use Rattle.std.specs.Prelude.{Ok, Err}
 use Prim.Native.Nat.{ℕ, ◌+◌, ◌*◌}
 use mathlib.Core.Path.{◌≡◌}
 use mathlib.Core.List.{List, [], ◌∷◌, ◌++◌}
@@ -12,7 +13,7 @@ use Rattle.format.specs.Packed.{codes_in, run_of, values, packing, coding, width
 use Rattle.format.specs.Blocks.{block_mark, is_block, base_of, bits_of, mid_bit, float_bit, coding_of, size_of, decoded, samples_of, from_block}
 use Rattle.format.specs.MidSide.{float_of, pattern_of, quieted, settled, left, right, left_right}
 use Rattle.format.specs.Units.{within, depth_word, is_depth, depth_of, frames_in, check_framed, active}
-use Rattle.format.specs.Refusals.{number, refuse, ◌then◌, in_order}
+use Rattle.format.specs.Refusals.{Checked, number, refuse, ◌then◌, in_order}
 use Rattle.format.specs.Places.{located, outside, inside}
 use Rattle.format.specs.Fit.{misfit, check_fit}
 use Rattle.format.specs.Opening.{check_fields, check_offsets, bad_entry, check_table, check_first, format_of, check_open, header_of, open_of}
@@ -25,8 +26,6 @@ use Rattle.format.specs.Encoding.{channel, unwoven, padded, padded_channels, dif
 use Rattle.format.specs.Reencoding.{new_values, values_for, base_for, reencoded_block, check_template_block, check_reencode_block, active_in, check_reencode_group, reencoded_group, check_same, check_bounds, check_rising, check_template, check_reencoder, check_reencode, check_reencode_into, reencoded_file, reencode_of, reencode_into}
 use Rattle.format.specs.Boundary.{samples_from, sample_bytes, is_mode, mode_of, check_mode, check_bytes, host_open, host_decode, host_decode_into, host_read_frames, host_read_frames_into, host_peaks, host_peak, host_peak_into, host_peaks_all, host_peaks_all_into, host_peaks_check, check_host_encode, host_encode, host_encode_into, check_host_reencode, host_reencode, host_reencode_into, host_decode_refusal, host_reencode_refusal}
 use Rattle.format.specs.declared.refusals.Place.{Place}
-use Rattle.format.specs.declared.refusals.Checked.{Checked}
-use Rattle.format.specs.declared.refusals.Checked.TheVariants.{Fine, No}
 use Rattle.format.specs.declared.settings.PcmSpec.{PcmSpec}
 use Rattle.format.specs.declared.settings.SampleFormat.TheVariants.{Float}
 use Rattle.format.specs.declared.settings.StereoMode.TheVariants.{Auto}
@@ -39,13 +38,13 @@ document_01 = tt
 -- ---- the number that checks give, 0 where nothing is refused
 
 abbrev pub said : Checked → ℕ
-said Fine = 0
-said (No refusal place) = number refusal
+said (Ok ok) = 0
+said (Err refused) = number refused.why
 
 -- and where: the number, the group and the channel; nothing where nothing is refused
 abbrev pub said_at : Checked → List ℕ
-said_at Fine = []
-said_at (No refusal place) = number refusal ∷ place.group ∷ place.channel ∷ []
+said_at (Ok ok) = []
+said_at (Err refused) = number refused.why ∷ refused.place.group ∷ refused.place.channel ∷ []
 
 abbrev pub block : ℕ → ℕ → Place
 block g c = record { group = g; channel = c }

@@ -5,13 +5,12 @@ use mathlib.Core.Path.{◌≡◌, refl}
 use mathlib.Core.List.{List, [], ◌∷◌}
 use lib.ListN.{replicate}
 use lib.IntN.{pos, negsuc}
-use Rattle.format.specs.Refusals.{nowhere}
+use Rattle.format.specs.Refusals.{Fine, No, nowhere}
 use Rattle.format.specs.Answers.{refused_by}
 use Rattle.format.specs.Fit.{check_fit}
 use Rattle.format.specs.Encoding.{encoded_file}
 use Rattle.format.specs.Reencoding.{reencode_of}
 use Rattle.format.specs.declared.refusals.Refusal.TheVariants.{WidthTooSmall}
-use Rattle.format.specs.declared.refusals.Checked.TheVariants.{Fine, No}
 use Rattle.format.specs.declared.settings.StereoMode.TheVariants.{Direct}
 use Rattle.format.proofs.Made.{document_01, pcm}
 

@@ -1,5 +1,6 @@
 -- Document 01, "Numbers of refusal": its table, each row by computation, and the limits of 31, 33 and 37: whole
 -- frames, their count, and the data size.
+use Rattle.std.specs.Prelude.{Err}
 use Prim.Native.Nat.{ℕ}
 use mathlib.Core.Path.{◌≡◌, refl}
 use lib.IntN.{ℤ}
@@ -21,7 +22,7 @@ use Rattle.format.specs.declared.refusals.Refusal.TheVariants.{OutputTooShort, R
 use Rattle.format.specs.declared.refusals.Refusal.TheVariants.{NumberCut, NumberLong, NumberTooLarge}
 use Rattle.format.specs.declared.refusals.Refusal.TheVariants.{BytesBehind, PeaksCrossed, FloatFile}
 use Rattle.format.specs.declared.refusals.Refusal.TheVariants.{PairPastEnd}
-use Rattle.format.specs.declared.units.Framed.TheVariants.{Incomplete, TooMany}
+use Rattle.format.specs.declared.units.Unframed.TheVariants.{Incomplete, TooMany}
 use Rattle.format.proofs.Made.{document_01, said}
 
 pub record Numbered : Type 0 where
@@ -121,8 +122,8 @@ pub record Numbered : Type 0 where
   pub framed_half : said (check_framed (record { 0 = 8589934591 }) 2) ≡ 31
   pub framed_over : said (check_framed (record { 0 = 8589934592 }) 2) ≡ 33
   pub framed_none : said (check_framed (record { 0 = 8589934590 }) 0) ≡ 31
-  pub is_incomplete : said (framed_as Incomplete) ≡ 31
-  pub is_too_many : said (framed_as TooMany) ≡ 33
+  pub is_incomplete : said (framed_as (Err Incomplete)) ≡ 31
+  pub is_too_many : said (framed_as (Err TooMany)) ≡ 33
 
 pub numbered : Numbered
 unfolding document_01

@@ -1,4 +1,6 @@
 -- Laws of depths and of the two counts: a depth is one of four, and frames times channels are samples.
+use Rattle.std.specs.Prelude.{Option, Some, None, is_some, Result, Ok, Err}
+use Rattle.std.specs.Option.{unwrap_or}
 use Prim.Native.Nat.{ℕ, zero, suc, ◌-◌, ◌*◌, ◌/◌, ◌%◌, ◌^◌, ◌≤◌, ◌<◌}
 use mathlib.Core.Path.{◌≡◌, refl, sym, ap, ◌∙◌}
 use mathlib.Core.Bool.{Bool, true, false, not, ◌&&◌, cond}
@@ -10,51 +12,32 @@ use lib.Dec.{eqb, ltb, leb}
 use lib.Pow.{pow_pos}
 use borrow.Author.Tests.{eq-eqb, ne_eqb, lt-ltb, le-ltb, le-leb, lt-leb, ltb-true, ltb-false, eqb-true}
 use Rattle.format.specs.Numbers.{holds}
-use Rattle.format.specs.Units.{bits_in, bytes_in, within, depth_word, is_known, or_widest, is_depth, depth_of, frames_in, framed_as, check_framed, Framing}
+use Rattle.format.specs.Units.{bits_in, bytes_in, within, depth_word, is_depth, depth_of, frames_in, framed_as, check_framed, Framing}
 use Rattle.format.specs.Refusals.{refuse, ◌then◌}
 use Rattle.format.specs.declared.refusals.Refusal.TheVariants.{IncompleteFrame, TooManyFrames}
-use Rattle.format.specs.declared.units.Framed.{Framed}
 use Rattle.format.specs.declared.units.Depth.{Depth}
 use Rattle.format.specs.declared.units.Depth.TheVariants.{Eight, Sixteen, TwentyFour, ThirtyTwo}
-use Rattle.format.specs.declared.units.DepthWord.{DepthWord}
-use Rattle.format.specs.declared.units.DepthWord.TheVariants.{Known, Unknown}
 use Rattle.format.specs.declared.units.Samples.{Samples}
-use Rattle.format.specs.declared.units.Framed.TheVariants.{Whole, Incomplete, TooMany}
+use Rattle.format.specs.declared.units.Frames.{Frames}
+use Rattle.format.specs.declared.units.Unframed.{Unframed}
+use Rattle.format.specs.declared.units.Unframed.TheVariants.{Incomplete, TooMany}
 
 -- ---- the depth word
 
-pub depth_unknown : (b : ℕ) → (b ≡ 8 → ⊥) → (b ≡ 16 → ⊥) → (b ≡ 24 → ⊥) → (b ≡ 32 → ⊥) → Unknown ≡ depth_word b
+pub depth_unknown : (b : ℕ) → (b ≡ 8 → ⊥) → (b ≡ 16 → ⊥) → (b ≡ 24 → ⊥) → (b ≡ 32 → ⊥) → None ≡ depth_word b
 unfolding depth_word
 depth_unknown b p q r s = rw (ne_eqb b 8 p, ne_eqb b 16 q, ne_eqb b 24 r, ne_eqb b 32 s)
-
--- the depth that a word names, by what reading it answered
-pub depth_named : (b : ℕ) (w : DepthWord) (d : Depth) → w ≡ depth_word b → w ≡ Known d → d ≡ depth_of b
-unfolding depth_of
-depth_named b w d e t = ap or_widest (sym t ∙ e)
-
-pub depth_unnamed : (b : ℕ) (w : DepthWord) → w ≡ depth_word b → w ≡ Unknown → ThirtyTwo ≡ depth_of b
-unfolding depth_of
-depth_unnamed b w e t = ap or_widest (sym t ∙ e)
-
--- whether it names one
-pub depth_said : (b : ℕ) (w : DepthWord) (d : Depth) → w ≡ depth_word b → w ≡ Known d → true ≡ is_depth b
-unfolding is_depth
-depth_said b w d e t = ap is_known (sym t ∙ e)
-
-pub depth_unsaid : (b : ℕ) (w : DepthWord) → w ≡ depth_word b → w ≡ Unknown → false ≡ is_depth b
-unfolding is_depth
-depth_unsaid b w e t = ap is_known (sym t ∙ e)
 
 -- a number is that of the depth which it names
 pub depth_bits : (b : ℕ) → is_depth b ≡ true → bits_in (depth_of b) ≡ b
 unfolding is_depth depth_of depth_word
 depth_bits b = by (eqb b 8) (eqb b 16) (eqb b 24) (eqb b 32) (eqb-true b 8) (eqb-true b 16) (eqb-true b 24) (eqb-true b 32)
   where
-    word : Bool → Bool → Bool → Bool → DepthWord
-    word p q r s = cond p (Known Eight) (cond q (Known Sixteen) (cond r (Known TwentyFour) (cond s (Known ThirtyTwo) Unknown)))
+    word : Bool → Bool → Bool → Bool → Option Depth
+    word p q r s = cond p (Some Eight) (cond q (Some Sixteen) (cond r (Some TwentyFour) (cond s (Some ThirtyTwo) None)))
 
     by : (p q r s : Bool) → (p ≡ true → b ≡ 8) → (q ≡ true → b ≡ 16) → (r ≡ true → b ≡ 24) → (s ≡ true → b ≡ 32)
-        → is_known (word p q r s) ≡ true → bits_in (or_widest (word p q r s)) ≡ b
+        → is_some (word p q r s) ≡ true → bits_in (unwrap_or (word p q r s) ThirtyTwo) ≡ b
     by true q r s e8 e16 e24 e32 k = sym (e8 refl)
     by false true r s e8 e16 e24 e32 k = sym (e16 refl)
     by false false true s e8 e16 e24 e32 k = sym (e24 refl)
@@ -101,21 +84,21 @@ pub product_below : (A B : ℕ) {a b : ℕ} → 0 < B → a < A → b < B → a 
 product_below A B {a} {b} p ha hb = lt_of_le_of_lt (mul-le-mul_left a (le_of_lt hb)) (mul-lt-mul_of_pos_right ha p)
 
 module _ (s : Samples) (channels : ℕ) where
-  pub no_channels : channels ≡ 0 → Incomplete ≡ frames_in s channels
+  pub no_channels : channels ≡ 0 → Err Incomplete ≡ frames_in s channels
   unfolding frames_in
   no_channels e = rw (eq-eqb channels 0 e)
 
   module _ (some : channels ≡ 0 → ⊥) where
-    pub no_frame : (s.0 % channels ≡ 0 → ⊥) → Incomplete ≡ frames_in s channels
+    pub no_frame : (s.0 % channels ≡ 0 → ⊥) → Err Incomplete ≡ frames_in s channels
     unfolding frames_in
     no_frame r = rw (ne_eqb channels 0 some, ne_eqb (s.0 % channels) 0 r)
 
     module _ (even : s.0 % channels ≡ 0) where
-      pub too_many : 4294967295 < s.0 / channels → TooMany ≡ frames_in s channels
+      pub too_many : 4294967295 < s.0 / channels → Err TooMany ≡ frames_in s channels
       unfolding frames_in
       too_many h = rw (ne_eqb channels 0 some, eq-eqb (s.0 % channels) 0 even, lt-ltb 4294967295 (s.0 / channels) h)
 
-      pub whole_frames : s.0 / channels ≤ 4294967295 → Whole (record { 0 = s.0 / channels }) ≡ frames_in s channels
+      pub whole_frames : s.0 / channels ≤ 4294967295 → Ok (record { 0 = s.0 / channels }) ≡ frames_in s channels
       unfolding frames_in
       whole_frames h = rw (ne_eqb channels 0 some, eq-eqb (s.0 % channels) 0 even, le-ltb 4294967295 (s.0 / channels) h)
 
@@ -125,7 +108,7 @@ unfolding frames_in check_framed refuse ◌then◌
 frames_refused s channels = by (eqb channels 0) (eqb (s.0 % channels) 0) (ltb 4294967295 (s.0 / channels))
   where
     by : (none whole many : Bool)
-        → framed_as (cond none Incomplete (cond whole (cond many TooMany (Whole (record { 0 = s.0 / channels }))) Incomplete))
+        → framed_as (cond none (Err Incomplete) (cond whole (cond many (Err TooMany) (Ok (record { 0 = s.0 / channels }))) (Err Incomplete)))
         ≡ (refuse none IncompleteFrame then refuse (not whole) IncompleteFrame then refuse many TooManyFrames)
     by true whole many = refl
     by false true true = refl
@@ -133,5 +116,5 @@ frames_refused s channels = by (eqb channels 0) (eqb (s.0 % channels) 0) (ltb 42
     by false false many = refl
 
 -- a count of frames that is framed so, is refused so
-pub framing : (s : Samples) (channels : ℕ) (f : Framed) → f ≡ frames_in s channels → Framing s channels f
+pub framing : (s : Samples) (channels : ℕ) (f : Result Frames Unframed) → f ≡ frames_in s channels → Framing s channels f
 framing s channels f e = (e, ap framed_as e ∙ frames_refused s channels)

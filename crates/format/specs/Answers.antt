@@ -1,10 +1,9 @@
 -- Document 01, "Numbers of refusal": what a call returns, and what lent memory then holds.
-use Rattle.std.specs.Prelude.{ℕ, List}
+use Rattle.std.specs.Prelude.{ℕ, List, Ok, Err}
 use Rattle.format.specs.Lists.{over}
+use Rattle.format.specs.Refusals.{Checked}
 use Rattle.format.specs.declared.refusals.Refusal.{Refusal}
 use Rattle.format.specs.declared.refusals.Place.{Place}
-use Rattle.format.specs.declared.refusals.Checked.{Checked}
-use Rattle.format.specs.declared.refusals.Checked.TheVariants.{Fine, No}
 use Rattle.format.specs.declared.answers.Outcome.{Outcome}
 use Rattle.format.specs.declared.answers.Outcome.TheVariants.{Read, Wrote, Refused}
 use Rattle.format.specs.declared.answers.Answer.{Answer}
@@ -26,10 +25,10 @@ abbrev pub wrote : ℕ → Answer
 wrote n = answered_by (Wrote n)
 
 abbrev pub answered : Checked → Outcome → Answer
-answered Fine outcome = answered_by outcome
-answered (No refusal place) outcome = refused_by refusal place
+answered (Ok ok) outcome = answered_by outcome
+answered (Err refused) outcome = refused_by refused.why refused.place
 
 -- a refusal changes no lent byte or sample; after success what lies after the written stays
 abbrev pub filled : {A : Type 0} → Checked → List A → List A → List A
-filled Fine written before = over written before
-filled (No refusal place) written before = before
+filled (Ok ok) written before = over written before
+filled (Err refused) written before = before

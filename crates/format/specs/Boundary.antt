@@ -1,9 +1,10 @@
 -- Document 01, "What must change shape": the host boundary, on numbers and byte slices.
-use Rattle.std.specs.Prelude.{ℕ, ◌+◌, ◌*◌, ◌/◌, ◌%◌, ◌^◌, List, Bool, not, cond, length, get_or, ℤ, pos, ltb, eqb}
+use Rattle.std.specs.Prelude.{ℕ, ◌+◌, ◌*◌, ◌/◌, ◌%◌, ◌^◌, List, Bool, not, cond, length, get_or, ℤ, pos, ltb, eqb, Ok}
+use Rattle.std.specs.Prelude.{Err}
 use Rattle.format.specs.Lists.{tab, joined}
 use Rattle.format.specs.Numbers.{le, num_at, value, code_of}
 use Rattle.format.specs.Units.{samples_in}
-use Rattle.format.specs.Refusals.{number, told, refuse, ◌then◌}
+use Rattle.format.specs.Refusals.{Checked, number, told, refuse, ◌then◌}
 use Rattle.format.specs.Answers.{answered, filled}
 use Rattle.format.specs.Opening.{open_of}
 use Rattle.format.specs.Decoding.{check_decode, decoded_of, check_room, decode_of}
@@ -15,8 +16,6 @@ use Rattle.format.specs.Reencoding.{reencoded_file, check_reencode_into}
 use Rattle.format.specs.declared.refusals.Refusal.TheVariants.{UnknownMode, SampleBytes}
 use Rattle.format.specs.declared.refusals.Told.{Told}
 use Rattle.format.specs.declared.refusals.Told.TheVariants.{Nothing, Bits, Misfit}
-use Rattle.format.specs.declared.refusals.Checked.{Checked}
-use Rattle.format.specs.declared.refusals.Checked.TheVariants.{Fine, No}
 use Rattle.format.specs.declared.units.Frames.{Frames}
 use Rattle.format.specs.declared.settings.PcmSpec.{PcmSpec}
 use Rattle.format.specs.declared.settings.StereoMode.{StereoMode}
@@ -144,9 +143,10 @@ misfit_told Nothing = 0
 
 -- 0 where nothing is refused; otherwise the number, that place, the channel and the group, in 8, 16, 16 and 24 bits
 abbrev pub refusal_word : Checked → ℕ
-refusal_word Fine = 0
-refusal_word (No refusal place) =
-    number refusal + 2 ^ 8 * misfit_told (told refusal) + 2 ^ 24 * place.channel + 2 ^ 40 * place.group
+refusal_word (Ok ok) = 0
+refusal_word (Err refused) =
+    let place = refused.place in
+    number refused.why + 2 ^ 8 * misfit_told (told refused.why) + 2 ^ 24 * place.channel + 2 ^ 40 * place.group
 
 unfoldable pub host_decode_refusal : List ℕ → ℕ → ℕ
 host_decode_refusal file room = refusal_word (check_decode file then check_room file (room / 4))

@@ -6,14 +6,13 @@ use Rattle.format.specs.Packed.{is_beyond}
 use Rattle.format.specs.Blocks.{is_block, bits_of, mid_bit, float_bit, coding_of, size_of, samples_of, from_block}
 use Rattle.format.specs.MidSide.{left_right}
 use Rattle.format.specs.Units.{samples_in, active}
-use Rattle.format.specs.Refusals.{refuse, ◌then◌, in_order}
+use Rattle.format.specs.Refusals.{Checked, refuse, ◌then◌, in_order}
 use Rattle.format.specs.Places.{in_group, in_channel}
 use Rattle.format.specs.Answers.{answered, filled}
 use Rattle.format.specs.Opening.{format_of, check_open}
 use Rattle.format.specs.declared.refusals.Refusal.TheVariants.{TooShort, BlockSignature, BitsWord}
 use Rattle.format.specs.declared.refusals.Refusal.TheVariants.{FloatDiffers, MidSideChannels}
 use Rattle.format.specs.declared.refusals.Refusal.TheVariants.{BytesLeft, OutputTooShort}
-use Rattle.format.specs.declared.refusals.Checked.{Checked}
 use Rattle.format.specs.declared.settings.SampleFormat.{SampleFormat}
 use Rattle.format.specs.declared.settings.SampleFormat.TheVariants.{Pcm, Float}
 use Rattle.format.specs.declared.units.Samples.{Samples}
@@ -73,7 +72,8 @@ group_samples fields format g group = woven (active fields.frames g) (channels_o
 unfoldable pub check_decode : List ℕ → Checked
 check_decode file =
     let fields = fields_of file in
-    let check : ℕ → Checked = λ g. in_group g (check_group fields (format_of file fields) (group_bytes file fields g)) in
+    let check : ℕ → Checked =
+    λ g. in_group g (check_group fields (format_of file fields) (group_bytes file fields g)) in
     check_open file  -- 1, 2, 10 to 15, 1, 16 to 19, 3
     then in_order check (groups_of fields.frames)  -- 1, 3, 20, 21, 4, 1, 22
 

@@ -1,5 +1,6 @@
 -- Document 01, "Encoding".
-use Rattle.std.specs.Prelude.{ℕ, zero, suc, ◌+◌, ◌-◌, ◌*◌, ◌/◌, ◌%◌, List, [], ◌∷◌, ◌++◌, Bool, true, false, not, ◌&&◌, cond, length, get_or, replicate, ℤ, pos, neg_ℤ, nat_abs, ◌+ℤ◌, ◌-ℤ◌, ltb, eqb}
+use Rattle.std.specs.Prelude.{ℕ, zero, suc, ◌+◌, ◌-◌, ◌*◌, ◌/◌, ◌%◌, List, [], ◌∷◌, ◌++◌, Bool, true, false, not}
+use Rattle.std.specs.Prelude.{◌&&◌, cond, length, get_or, replicate, ℤ, pos, neg_ℤ, nat_abs, ◌+ℤ◌, ◌-ℤ◌, ltb, eqb}
 use Rattle.std.specs.Int.Signed.{quot_z}
 use Rattle.format.specs.Lists.{from, tab, joined, last_or, pairwise, every, is_in}
 use Rattle.format.specs.Numbers.{le, code_of, holds, minus}
@@ -7,13 +8,12 @@ use Rattle.format.specs.Header.{signature, groups_of}
 use Rattle.format.specs.Packed.{packing}
 use Rattle.format.specs.Blocks.{block_mark}
 use Rattle.format.specs.Units.{depth_of, within, check_frame_count}
-use Rattle.format.specs.Refusals.{refuse, ◌then◌, in_order}
+use Rattle.format.specs.Refusals.{Checked, refuse, ◌then◌, in_order}
 use Rattle.format.specs.Places.{in_group}
 use Rattle.format.specs.Answers.{answered, filled}
 use Rattle.format.specs.declared.refusals.Refusal.TheVariants.{WriterSpec, IncompleteFrame, ValueOutside}
 use Rattle.format.specs.declared.refusals.Refusal.TheVariants.{NotStereo, ParityDiffers}
 use Rattle.format.specs.declared.refusals.Refusal.TheVariants.{DataTooLarge, OutputTooShort}
-use Rattle.format.specs.declared.refusals.Checked.{Checked}
 use Rattle.format.specs.declared.units.Frames.{Frames}
 use Rattle.format.specs.declared.settings.PcmSpec.{PcmSpec}
 use Rattle.format.specs.declared.settings.StereoMode.{StereoMode}

@@ -3,14 +3,12 @@ use Rattle.std.specs.Prelude.{ℕ, ◌+◌, ◌-◌, ◌*◌, ◌/◌, ◌%◌, 
 use Rattle.format.specs.Lists.{joined, from}
 use Rattle.format.specs.Header.{fields_of, groups_of, group_bytes}
 use Rattle.format.specs.Units.{samples_in}
-use Rattle.format.specs.Refusals.{refuse, ◌then◌, in_order}
+use Rattle.format.specs.Refusals.{Checked, Fine, refuse, ◌then◌, in_order}
 use Rattle.format.specs.Answers.{answered, filled}
 use Rattle.format.specs.Opening.{format_of, check_open}
 use Rattle.format.specs.Decoding.{channels_of, frame_of}
 use Rattle.format.specs.Walking.{check_step}
 use Rattle.format.specs.declared.refusals.Refusal.TheVariants.{OutputTooShort, RangePastEnd}
-use Rattle.format.specs.declared.refusals.Checked.{Checked}
-use Rattle.format.specs.declared.refusals.Checked.TheVariants.{Fine}
 use Rattle.format.specs.declared.units.Frames.{Frames}
 use Rattle.format.specs.declared.units.Samples.{Samples}
 use Rattle.format.specs.declared.answers.Fields.{Fields}

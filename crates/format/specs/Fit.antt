@@ -2,9 +2,8 @@
 use Rattle.std.specs.Prelude.{ℕ, List, not, ℤ}
 use Rattle.format.specs.Lists.{every, first_not}
 use Rattle.format.specs.Numbers.{holds}
-use Rattle.format.specs.Refusals.{refuse}
+use Rattle.format.specs.Refusals.{Checked, refuse}
 use Rattle.format.specs.declared.refusals.Refusal.TheVariants.{WidthTooSmall}
-use Rattle.format.specs.declared.refusals.Checked.{Checked}
 
 -- ------------------------------------------------------------------------------------------------------------------
 

@@ -1,5 +1,6 @@
 -- Lists by their parts.
-use Rattle.std.specs.Prelude.{ℕ, zero, suc, List, [], ◌∷◌, ◌++◌, Bool, true, false, ◌&&◌, ◌||◌, cond, length, take, drop, eqb}
+use Rattle.std.specs.Prelude.{ℕ, zero, suc, List, [], ◌∷◌, ◌++◌, Bool, true, false, ◌&&◌, ◌||◌, cond, length, take}
+use Rattle.std.specs.Prelude.{drop, eqb}
 
 -- ------------------------------------------------------------------------------------------------------------------
 

@@ -3,7 +3,7 @@ use Rattle.std.specs.Prelude.{ℕ, ◌+◌, ◌-◌, ◌*◌, List, Bool, not, �
 use Rattle.format.specs.Header.{is_signature, fields_of, groups_of, entry}
 use Rattle.format.specs.Blocks.{is_block, float_bit}
 use Rattle.format.specs.Units.{is_depth, depth_of}
-use Rattle.format.specs.Refusals.{refuse, ◌then◌, in_order}
+use Rattle.format.specs.Refusals.{Checked, refuse, ◌then◌, in_order}
 use Rattle.format.specs.Places.{in_group}
 use Rattle.format.specs.Answers.{answered}
 use Rattle.format.specs.declared.refusals.Refusal.TheVariants.{TooShort, FileSignature, BlockSignature}
@@ -11,7 +11,6 @@ use Rattle.format.specs.declared.refusals.Refusal.TheVariants.{ZeroChannels, Dep
 use Rattle.format.specs.declared.refusals.Refusal.TheVariants.{TableOffset, DataOffset, TableLength}
 use Rattle.format.specs.declared.refusals.Refusal.TheVariants.{LastEntry, DataWithoutFrames}
 use Rattle.format.specs.declared.refusals.Refusal.TheVariants.{FirstEntry, EntryBounds}
-use Rattle.format.specs.declared.refusals.Checked.{Checked}
 use Rattle.format.specs.declared.settings.SampleFormat.{SampleFormat}
 use Rattle.format.specs.declared.settings.SampleFormat.TheVariants.{Pcm, Float}
 use Rattle.format.specs.declared.answers.Fields.{Fields}

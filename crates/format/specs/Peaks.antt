@@ -1,17 +1,17 @@
 -- Document 02, L7, "Peaks beside the file".
-use Rattle.std.specs.Prelude.{ℕ, zero, suc, ◌+◌, ◌*◌, List, [], ◌∷◌, ◌++◌, Bool, not, cond, length, take, get_or, ℤ, pos, ltb, eqb}
+use Rattle.std.specs.Prelude.{ℕ, zero, suc, ◌+◌, ◌*◌, List, [], ◌∷◌, ◌++◌, Bool, not, cond, length, take, get_or, ℤ}
+use Rattle.std.specs.Prelude.{pos, ltb, eqb}
 use Rattle.std.specs.Int.Signed.{le_z}
 use Rattle.format.specs.Lists.{joined, same}
 use Rattle.format.specs.SevenBits.{seven, seven_value, check_seven, past, folded, unfolded}
 use Rattle.format.specs.Header.{fields_of, groups_of, group_bytes}
 use Rattle.format.specs.Units.{active}
-use Rattle.format.specs.Refusals.{refuse, ◌then◌, in_order}
+use Rattle.format.specs.Refusals.{Checked, refuse, ◌then◌, in_order}
 use Rattle.format.specs.Answers.{answered, filled}
 use Rattle.format.specs.Opening.{format_of}
 use Rattle.format.specs.Decoding.{is_float, channels_of, check_decode}
 use Rattle.format.specs.declared.refusals.Refusal.TheVariants.{ZeroChannels, OutputTooShort, BytesBehind}
 use Rattle.format.specs.declared.refusals.Refusal.TheVariants.{PeaksCrossed, FloatFile, PairPastEnd}
-use Rattle.format.specs.declared.refusals.Checked.{Checked}
 use Rattle.format.specs.declared.units.Frames.{Frames}
 use Rattle.format.specs.declared.units.Samples.{Samples}
 use Rattle.format.specs.declared.answers.Peak.{Peak}

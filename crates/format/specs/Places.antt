@@ -1,12 +1,10 @@
 -- Document 02, L6: where it refused.
-use Rattle.std.specs.Prelude.{ℕ, ◌<◌, ◌≡◌, cond, List, [], ◌∷◌}
+use Rattle.std.specs.Prelude.{ℕ, ◌<◌, ◌≡◌, cond, List, [], ◌∷◌, Ok, Err}
 use Rattle.format.specs.Lists.{is_in}
-use Rattle.format.specs.Refusals.{nowhere}
+use Rattle.format.specs.Refusals.{nowhere, Checked, Fine, No}
 use Rattle.format.specs.declared.places.Named.{Named}
 use Rattle.format.specs.declared.places.Named.TheVariants.{NoGroup, TheGroup, TheBlock}
 use Rattle.format.specs.declared.refusals.Place.{Place}
-use Rattle.format.specs.declared.refusals.Checked.{Checked}
-use Rattle.format.specs.declared.refusals.Checked.TheVariants.{Fine, No}
 
 -- ------------------------------------------------------------------------------------------------------------------
 
@@ -19,8 +17,8 @@ at_channel c place = record { group = place.group; channel = c }
 
 -- what checks say, of another place
 unfoldable pub located : (Place → Place) → Checked → Checked
-located move Fine = Fine
-located move (No refusal place) = No refusal (move place)
+located move (Ok ok) = Fine
+located move (Err refused) = No refused.why (move refused.place)
 
 -- the checks of group g
 abbrev pub in_group : ℕ → Checked → Checked

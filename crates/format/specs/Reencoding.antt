@@ -1,6 +1,7 @@
 -- Document 01, "Re-encoding": every byte is the template's, but for the base of difference blocks and the packed values
 -- that the samples determine.
-use Rattle.std.specs.Prelude.{ℕ, ◌+◌, ◌-◌, ◌*◌, min, List, [], ◌∷◌, ◌++◌, Bool, not, ◌&&◌, cond, length, get_or, take, drop, ℤ, ltb, leb, eqb}
+use Rattle.std.specs.Prelude.{ℕ, ◌+◌, ◌-◌, ◌*◌, min, List, [], ◌∷◌, ◌++◌, Bool, not, ◌&&◌, cond, length, get_or, take}
+use Rattle.std.specs.Prelude.{drop, ℤ, ltb, leb, eqb}
 use Rattle.format.specs.Lists.{from, joined, any_below}
 use Rattle.format.specs.Numbers.{le, code_of}
 use Rattle.format.specs.Header.{is_signature, fields_of, groups_of, entry, group_bytes}
@@ -9,7 +10,7 @@ use Rattle.format.specs.declared.packed.Coding.{Coding}
 use Rattle.format.specs.declared.packed.Coding.TheVariants.{Differences, Raw, Beyond}
 use Rattle.format.specs.Blocks.{is_block, bits_word, bits_of, flags_of, mid_bit}
 use Rattle.format.specs.Blocks.{coding_of, size_of, samples_of, from_block}
-use Rattle.format.specs.Refusals.{refuse, ◌then◌, in_order}
+use Rattle.format.specs.Refusals.{Checked, refuse, ◌then◌, in_order}
 use Rattle.format.specs.Places.{in_group, in_channel}
 use Rattle.format.specs.Answers.{answered, filled}
 use Rattle.format.specs.Fit.{check_fit}
@@ -20,7 +21,6 @@ use Rattle.format.specs.declared.refusals.Refusal.TheVariants.{NotStereo, Parity
 use Rattle.format.specs.declared.refusals.Refusal.TheVariants.{TemplateDiffers, TemplateBounds, TemplateOffsets}
 use Rattle.format.specs.declared.refusals.Refusal.TheVariants.{ShortGroup, TemplateBits, TemplateFlags}
 use Rattle.format.specs.declared.refusals.Refusal.TheVariants.{TemplateBytesLeft, OutputTooShort}
-use Rattle.format.specs.declared.refusals.Checked.{Checked}
 use Rattle.format.specs.declared.units.Frames.{Frames}
 use Rattle.format.specs.declared.settings.PcmSpec.{PcmSpec}
 use Rattle.format.specs.declared.answers.Fields.{Fields}
@@ -82,8 +82,10 @@ active_in channels group samples =
 -- 34 or 35 if bit 0 of the first block's flags is set; 46 after the channels
 unfoldable pub check_reencode_group : ℕ → ℕ → List ℕ → List ℤ → Checked
 check_reencode_group depth channels group samples =
-    let chans = active_in channels group samples in
-    let check : ℕ → Checked = λ c. in_channel c (check_reencode_block depth (from_block depth group c) (get_or chans c [])) in
+    let chans =
+    active_in channels group samples in
+    let check : ℕ → Checked =
+    λ c. in_channel c (check_reencode_block depth (from_block depth group c) (get_or chans c [])) in
     refuse (ltb (length group) 12) ShortGroup  -- 43
     then refuse (mid_bit group && not (eqb channels 2)) NotStereo  -- 34
     then refuse (mid_bit group && not (parity (unwoven channels samples))) ParityDiffers  -- 35

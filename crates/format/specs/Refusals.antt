@@ -1,5 +1,5 @@
 -- Document 01, "Numbers of refusal", and checks in order.
-use Rattle.std.specs.Prelude.{ℕ, zero, suc, Bool, true, false}
+use Rattle.std.specs.Prelude.{ℕ, zero, suc, Bool, true, false, ⊤, Result, Ok, Err}
 use Rattle.format.specs.declared.refusals.Refusal.{Refusal}
 use Rattle.format.specs.declared.refusals.Refusal.TheVariants.{TooShort, FileSignature, BlockSignature}
 use Rattle.format.specs.declared.refusals.Refusal.TheVariants.{BitsWord, ZeroChannels, DepthUnknown, ZeroRate}
@@ -19,8 +19,7 @@ use Rattle.format.specs.declared.refusals.Refusal.TheVariants.{PairPastEnd}
 use Rattle.format.specs.declared.refusals.Told.{Told}
 use Rattle.format.specs.declared.refusals.Told.TheVariants.{Nothing, Bits, Misfit}
 use Rattle.format.specs.declared.refusals.Place.{Place}
-use Rattle.format.specs.declared.refusals.Checked.{Checked}
-use Rattle.format.specs.declared.refusals.Checked.TheVariants.{Fine, No}
+use Rattle.format.specs.declared.refusals.RefusedAt.{RefusedAt}
 
 -- ------------------------------------------------------------------------------------------------------------------
 
@@ -120,6 +119,16 @@ told PairPastEnd = Nothing
 abbrev pub nowhere : Place
 nowhere = record { group = 0; channel = 0 }
 
+-- what checks say: nothing is refused, or what is, and where
+abbrev pub Checked : Type 0
+Checked = Result ⊤ RefusedAt
+
+abbrev pub Fine : Checked
+Fine = Ok tt
+
+abbrev pub No : Refusal → Place → Checked
+No refusal place = Err (record { why = refusal; place = place })
+
 -- a check: refused where the test holds
 unfoldable pub refuse : Bool → Refusal → Checked
 refuse true refusal = No refusal nowhere
@@ -128,8 +137,8 @@ refuse false refusal = Fine
 infixr 20 ◌then◌
 -- one check after another: the first refusal counts
 unfoldable pub ◌then◌ : Checked → Checked → Checked
-Fine then next = next
-(No refusal place) then next = No refusal place
+(Ok ok) then next = next
+(Err refused) then next = Err refused
 
 -- check 0, check 1, .. check (n - 1), in order
 unfoldable pub in_order : (ℕ → Checked) → ℕ → Checked

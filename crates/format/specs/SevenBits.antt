@@ -1,10 +1,10 @@
 -- Document 02, L7: numbers in groups of seven bits, low group first, high bit set on all but the last byte. `s` is a
 -- list of bytes that begins with a number.
-use Rattle.std.specs.Prelude.{ℕ, zero, suc, ◌+◌, ◌-◌, ◌*◌, ◌/◌, ◌%◌, List, [], ◌∷◌, map, ◌&&◌, cond, length, take, drop, get_or, ℤ, pos, negsuc, ltb, eqb}
+use Rattle.std.specs.Prelude.{ℕ, zero, suc, ◌+◌, ◌-◌, ◌*◌, ◌/◌, ◌%◌, List, [], ◌∷◌, map, ◌&&◌, cond, length, take}
+use Rattle.std.specs.Prelude.{drop, get_or, ℤ, pos, negsuc, ltb, eqb}
 use Rattle.format.specs.Numbers.{num}
-use Rattle.format.specs.Refusals.{refuse, ◌then◌}
+use Rattle.format.specs.Refusals.{Checked, refuse, ◌then◌}
 use Rattle.format.specs.declared.refusals.Refusal.TheVariants.{NumberCut, NumberLong, NumberTooLarge}
-use Rattle.format.specs.declared.refusals.Checked.{Checked}
 
 -- ------------------------------------------------------------------------------------------------------------------
 

@@ -1,18 +1,16 @@
 -- Document 01, "The units".
-use Rattle.std.specs.Prelude.{ℕ, ◌-◌, ◌*◌, ◌/◌, ◌%◌, ◌^◌, min, ◌≡◌, Bool, true, false, not, ◌&&◌, cond, ℤ, pos, neg_ℤ, ltb, eqb}
+use Rattle.std.specs.Prelude.{ℕ, ◌-◌, ◌*◌, ◌/◌, ◌%◌, ◌^◌, min, ◌≡◌, Bool, not, ◌&&◌, cond, ℤ, pos, neg_ℤ, ltb, eqb}
+use Rattle.std.specs.Prelude.{Option, Some, None, is_some, Result, Ok, Err}
+use Rattle.std.specs.Option.{unwrap_or}
 use Rattle.std.specs.Int.Signed.{le_z}
-use Rattle.format.specs.Refusals.{nowhere, refuse, ◌then◌}
-use Rattle.format.specs.declared.refusals.Checked.{Checked}
-use Rattle.format.specs.declared.refusals.Checked.TheVariants.{Fine, No}
+use Rattle.format.specs.Refusals.{Checked, Fine, No, nowhere, refuse, ◌then◌}
 use Rattle.format.specs.declared.refusals.Refusal.TheVariants.{IncompleteFrame, TooManyFrames}
 use Rattle.format.specs.declared.units.Depth.{Depth}
 use Rattle.format.specs.declared.units.Depth.TheVariants.{Eight, Sixteen, TwentyFour, ThirtyTwo}
-use Rattle.format.specs.declared.units.DepthWord.{DepthWord}
-use Rattle.format.specs.declared.units.DepthWord.TheVariants.{Known, Unknown}
 use Rattle.format.specs.declared.units.Frames.{Frames}
 use Rattle.format.specs.declared.units.Samples.{Samples}
-use Rattle.format.specs.declared.units.Framed.{Framed}
-use Rattle.format.specs.declared.units.Framed.TheVariants.{Whole, Incomplete, TooMany}
+use Rattle.format.specs.declared.units.Unframed.{Unframed}
+use Rattle.format.specs.declared.units.Unframed.TheVariants.{Incomplete, TooMany}
 
 -- ------------------------------------------------------------------------------------------------------------------
 
@@ -38,28 +36,20 @@ unfoldable pub within : Depth → ℤ → Bool
 within depth z = le_z (lowest depth) z && le_z z (highest depth)
 
 -- depth 8, 16, 24, 32
-unfoldable pub depth_word : ℕ → DepthWord
+unfoldable pub depth_word : ℕ → Option Depth
 depth_word word =
-    cond (eqb word 8) (Known Eight)
-    (cond (eqb word 16) (Known Sixteen)
-    (cond (eqb word 24) (Known TwentyFour)
-    (cond (eqb word 32) (Known ThirtyTwo) Unknown)))
+    cond (eqb word 8) (Some Eight)
+    (cond (eqb word 16) (Some Sixteen)
+    (cond (eqb word 24) (Some TwentyFour)
+    (cond (eqb word 32) (Some ThirtyTwo) None)))
 
 -- whether a depth word names a depth; one that names none is refused by 11 (Opening)
-abbrev pub is_known : DepthWord → Bool
-is_known (Known depth) = true
-is_known Unknown = false
+unfoldable pub is_depth : ℕ → Bool
+is_depth word = is_some (depth_word word)
 
 -- the depth that it names; where it names none, 0 among them, the widest
-abbrev pub or_widest : DepthWord → Depth
-or_widest (Known depth) = depth
-or_widest Unknown = ThirtyTwo
-
-unfoldable pub is_depth : ℕ → Bool
-is_depth word = is_known (depth_word word)
-
 unfoldable pub depth_of : ℕ → Depth
-depth_of word = or_widest (depth_word word)
+depth_of word = unwrap_or (depth_word word) ThirtyTwo
 
 -- ---- frames and samples
 
@@ -76,17 +66,17 @@ abbrev pub check_frame_count : ℕ → Checked
 check_frame_count n = refuse (ltb 4294967295 n) TooManyFrames  -- 33
 
 -- and back: no frames without a channel, only whole ones, and at most 4,294,967,295
-unfoldable pub frames_in : Samples → ℕ → Framed
+unfoldable pub frames_in : Samples → ℕ → Result Frames Unframed
 frames_in count channels =
     let n = count.0 / channels in
-    let whole = cond (ltb 4294967295 n) TooMany (Whole (record { 0 = n })) in
-    cond (eqb channels 0) Incomplete (cond (eqb (count.0 % channels) 0) whole Incomplete)
+    let whole = cond (ltb 4294967295 n) (Err TooMany) (Ok (record { 0 = n })) in
+    cond (eqb channels 0) (Err Incomplete) (cond (eqb (count.0 % channels) 0) whole (Err Incomplete))
 
 -- what is no whole number of frames is refused by its number
-abbrev pub framed_as : Framed → Checked
-framed_as (Whole frames) = Fine
-framed_as Incomplete = No IncompleteFrame nowhere  -- 31
-framed_as TooMany = No TooManyFrames nowhere  -- 33
+abbrev pub framed_as : Result Frames Unframed → Checked
+framed_as (Ok frames) = Fine
+framed_as (Err Incomplete) = No IncompleteFrame nowhere  -- 31
+framed_as (Err TooMany) = No TooManyFrames nowhere  -- 33
 
 -- the same, by checks: 31 without a channel, or where a frame is not whole; then 33
 unfoldable pub check_framed : Samples → ℕ → Checked
@@ -96,6 +86,6 @@ check_framed count channels =
     then check_frame_count (count.0 / channels)  -- 33
 
 -- what is promised of so many samples in frames: how many they are, and by what they are refused
-abbrev pub Framing : Samples → ℕ → Framed → Type 0
+abbrev pub Framing : Samples → ℕ → Result Frames Unframed → Type 0
 Framing count channels framed =
     (framed ≡ frames_in count channels) × (framed_as framed ≡ check_framed count channels)

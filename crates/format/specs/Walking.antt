@@ -2,14 +2,12 @@
 use Rattle.std.specs.Prelude.{ℕ, ◌+◌, List, [], Bool, cond, length, ℤ, ltb}
 use Rattle.format.specs.Header.{fields_of, groups_of, group_bytes}
 use Rattle.format.specs.Units.{samples_in, active}
-use Rattle.format.specs.Refusals.{refuse, ◌then◌}
+use Rattle.format.specs.Refusals.{Checked, Fine, refuse, ◌then◌}
 use Rattle.format.specs.Places.{in_group}
 use Rattle.format.specs.Answers.{answered, filled}
 use Rattle.format.specs.Opening.{format_of, check_open}
 use Rattle.format.specs.Decoding.{check_group, group_samples}
 use Rattle.format.specs.declared.refusals.Refusal.TheVariants.{OutputTooShort}
-use Rattle.format.specs.declared.refusals.Checked.{Checked}
-use Rattle.format.specs.declared.refusals.Checked.TheVariants.{Fine}
 use Rattle.format.specs.declared.units.Samples.{Samples}
 use Rattle.format.specs.declared.answers.Outcome.{Outcome}
 use Rattle.format.specs.declared.answers.Outcome.TheVariants.{Opened, Read, Finished, Wrote, Refused}

@@ -2,7 +2,7 @@
 ghost use Rattle.std.specs.Prelude.{◌≡◌};
 ghost use Rattle.format.specs.Answers.{answered_by, refused_by};
 
-use crate::refusals::{Place, Refusal};
+use crate::refusals::{Refusal, RefusedAt};
 use crate::settings::SampleFormat;
 use crate::units::{Depth, Frames, Samples};
 
@@ -75,13 +75,14 @@ impl Answer {
     }
 
     // Nothing was done, for this reason, there.
-    pub fn refused(why: Refusal, at: Place) -> Answer
-        ensures { result ≡ refused_by why at }
+    pub fn refused(refused: RefusedAt) -> Answer
+        ensures { result ≡ refused_by refused.why refused.place }
     {
+        let place = refused.place;
         Answer {
-            outcome: Outcome::Refused(why),
-            group: at.group,
-            channel: at.channel,
+            outcome: Outcome::Refused(refused.why),
+            group: place.group,
+            channel: place.channel,
         }
     }
 }

@@ -1,7 +1,7 @@
 // Document 01, "Numbers of refusal".
-ghost use Rattle.std.specs.Prelude.{◌≡◌};
-ghost use Rattle.format.specs.Refusals.{number, told};
-ghost use Rattle.format.specs.Places.{at_group, at_channel};
+ghost use Rattle.std.specs.Prelude.{◌≡◌, false, OnOk};
+ghost use Rattle.format.specs.Refusals.{number, told, nowhere, refuse};
+ghost use Rattle.format.specs.Places.{at_group, at_channel, in_group, in_channel};
 
 // Why a call is refused; `number` has each in document 01's words.
 #[derive(Clone, Copy)]
@@ -94,11 +94,51 @@ impl Place {
     }
 }
 
-// What checks say: nothing is refused, or what is, and where.
+// What is refused, and where.
 #[derive(Clone, Copy)]
-pub enum Checked {
-    Fine,
-    No(Refusal, Place),
+pub struct RefusedAt {
+    pub why: Refusal,
+    pub place: Place,
+}
+
+// A check: refused where the test holds, for this reason, which concerns no group.
+#[tactic(auto, unfolding(crate::specs::Refusals::refuse))]
+pub fn refuse(test: bool, why: Refusal) -> Result<(), RefusedAt>
+    ensures says { result ≡ refuse test why }
+    ensures passes { OnOk result (test ≡ false) }
+{
+    if test {
+        return Err(why.nowhere());
+    }
+    Ok(())
+}
+
+// What the checks of group g say: they do not know its number.
+#[tactic(auto, unfolding(crate::specs::Places::located))]
+pub fn in_group(g: u32, checks: Result<(), RefusedAt>) -> Result<(), RefusedAt>
+    ensures { result ≡ in_group g checks }
+{
+    match checks {
+        Ok(()) => Ok(()),
+        Err(refused) => Err(RefusedAt {
+            why: refused.why,
+            place: refused.place.at_group(g),
+        }),
+    }
+}
+
+// What the checks of channel c's block say, likewise.
+#[tactic(auto, unfolding(crate::specs::Places::located))]
+pub fn in_channel(c: u16, checks: Result<(), RefusedAt>) -> Result<(), RefusedAt>
+    ensures { result ≡ in_channel c checks }
+{
+    match checks {
+        Ok(()) => Ok(()),
+        Err(refused) => Err(RefusedAt {
+            why: refused.why,
+            place: refused.place.at_channel(c),
+        }),
+    }
 }
 
 impl Refusal {
@@ -150,6 +190,16 @@ impl Refusal {
             Refusal::PeaksCrossed => 64, // smallest above largest
             Refusal::FloatFile => 66, // a float file, where only PCM will do
             Refusal::PairPastEnd => 67, // asking past the last group or channel
+        }
+    }
+
+    // Refused for this reason, which concerns no group.
+    pub fn nowhere(self) -> RefusedAt
+        ensures { (result.why ≡ self) × (result.place ≡ nowhere) }
+    {
+        RefusedAt {
+            why: self,
+            place: NOWHERE,
         }
     }
 

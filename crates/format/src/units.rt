@@ -13,13 +13,6 @@ pub enum Depth {
     ThirtyTwo,
 }
 
-// What a depth word says.
-#[derive(Clone, Copy)]
-pub enum DepthWord {
-    Known(Depth),
-    Unknown,
-}
-
 impl Depth {
     // Every block holds so many samples of one channel; the last of a file is padded to them.
     pub const SAMPLES_PER_BLOCK: usize = 512;
@@ -30,38 +23,34 @@ impl Depth {
     // A block's header, in bytes, before its packed values.
     pub const BLOCK_HEADER_SIZE: usize = 16;
 
-    // The depth that a word names, or that it names none.
-    pub fn from_bits(bits: u16) -> DepthWord
+    // The depth that a word names, if it names one.
+    pub fn from_bits(bits: u16) -> Option<Depth>
         ensures { result ≡ depth_word bits }
     {
         match bits {
-            8 => DepthWord::Known(Depth::Eight),
-            16 => DepthWord::Known(Depth::Sixteen),
-            24 => DepthWord::Known(Depth::TwentyFour),
-            32 => DepthWord::Known(Depth::ThirtyTwo),
-            _ => DepthWord::Unknown,
+            8 => Some(Depth::Eight),
+            16 => Some(Depth::Sixteen),
+            24 => Some(Depth::TwentyFour),
+            32 => Some(Depth::ThirtyTwo),
+            _ => None,
         }
     }
 
     // The depth that a word names; where it names none, 0 among them, the widest. Opening refuses such a word,
     // 11: depth not 8, 16, 24, 32.
+    #[tactic(auto, unfolding(crate::specs::Units::depth_of))]
     pub fn of(bits: u16) -> Depth
         ensures { result ≡ depth_of bits }
     {
-        match Depth::from_bits(bits) {
-            DepthWord::Known(d) => d,
-            DepthWord::Unknown => Depth::ThirtyTwo,
-        }
+        Depth::from_bits(bits).unwrap_or(Depth::ThirtyTwo)
     }
 
     // Whether a word names a depth.
+    #[tactic(auto, unfolding(crate::specs::Units::is_depth))]
     pub fn is_depth(bits: u16) -> bool
         ensures { result ≡ is_depth bits }
     {
-        match Depth::from_bits(bits) {
-            DepthWord::Known(_) => true,
-            DepthWord::Unknown => false,
-        }
+        Depth::from_bits(bits).is_some()
     }
 
     // Bits in a sample.
@@ -116,10 +105,9 @@ pub struct Frames(pub u32);
 #[derive(Clone, Copy)]
 pub struct Samples(pub u64);
 
-// What so many samples are in frames.
+// Why so many samples are no number of frames.
 #[derive(Clone, Copy)]
-pub enum Framed {
-    Whole(Frames),
+pub enum Unframed {
     Incomplete,
     TooMany,
 }
@@ -166,21 +154,21 @@ impl Frames {
 
 impl Samples {
     // As many samples in frames: only whole ones, at most 4,294,967,295, and none without a channel.
-    pub fn frames(self, channels: u16) -> Framed
+    pub fn frames(self, channels: u16) -> Result<Frames, Unframed>
         ensures { Framing self channels result }
     {
         if channels == 0 {
-            return Framed::Incomplete;
+            return Err(Unframed::Incomplete);
         }
         let n = self.0;
         let c = channels as u64;
         if n % c != 0 {
-            return Framed::Incomplete;
+            return Err(Unframed::Incomplete);
         }
         let f = n / c;
         if 0xFFFF_FFFF < f {
-            return Framed::TooMany;
+            return Err(Unframed::TooMany);
         }
-        Framed::Whole(Frames(f as u32))
+        Ok(Frames(f as u32))
     }
 }

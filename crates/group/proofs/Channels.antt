@@ -97,31 +97,30 @@ module _ (h : Fields) (f : SampleFormat) (bs : List ℕ) (ok : Readable h f bs) 
   pub first_whole : Whole h.depth bs
   first_whole = subst (Whole h.depth) (part_is 0 bs) (whole 0 0 (begins_first h.depth bs) ok.some)
 
-  module _ (at : ℕ) (size : at ≡ size_of h.depth bs) where
-    pub first_inside : at ≤ length bs
-    first_inside = rw size first_whole.run
+  second_begins : Begins h.depth bs 1 (size_of h.depth bs)
+  unfolding from_block
+  second_begins = record { inside = first_whole.run; left = refl }
 
-    second_begins : Begins h.depth bs 1 at
-    unfolding from_block
-    second_begins = record { inside = first_inside; left = rw size }
+  module _ (two : h.channels ≡ 2) where
+    pub second_whole : Whole h.depth (part (size_of h.depth bs) bs)
+    second_whole = whole 1 (size_of h.depth bs) second_begins (omega arith)
 
-    module _ (two : h.channels ≡ 2) where
-      pub second_whole : Whole h.depth (part at bs)
-      second_whole = whole 1 at second_begins (omega arith)
+    module _ (l r : List ℤ) (p : l ≡ samples_of h.depth bs) (q : r ≡ samples_of h.depth (part (size_of h.depth bs) bs)) where
+      pair_is : l ∷ r ∷ [] ≡ chans
+      unfolding coded tab from_block
+      pair_is = rw (two, p, q, part_is (size_of h.depth bs) bs)
 
-      module _ (l r : List ℤ) (p : l ≡ samples_of h.depth bs) (q : r ≡ samples_of h.depth (part at bs)) where
-        pair_is : l ∷ r ∷ [] ≡ chans
-        unfolding coded tab from_block
-        pair_is = rw (two, p, q, part_is at bs, size)
+      module _ (b : BlockHeader) (t : Bool) (header : b ≡ block_header bs) (mid : t ≡ eqb (b.flags % 2) 1) where
+        bit : mid_bit bs ≡ t
+        unfolding mid_bit block_header
+        bit = sym (mid ∙ ap (λ (x : BlockHeader). eqb (x.flags % 2) 1) header)
 
-        module _ (b : BlockHeader) (t : Bool) (header : b ≡ block_header bs) (mid : t ≡ eqb (b.flags % 2) 1) where
-          bit : mid_bit bs ≡ t
-          unfolding mid_bit block_header
-          bit = sym (mid ∙ ap (λ (x : BlockHeader). eqb (x.flags % 2) 1) header)
+        pub pair_plain : t ≡ false → l ∷ r ∷ [] ≡ channels_of h f bs
+        pair_plain e = pair_is ∙ sym (plain (bit ∙ e))
 
-          pub pair_plain : t ≡ false → l ∷ r ∷ [] ≡ channels_of h f bs
-          pair_plain e = pair_is ∙ sym (plain (bit ∙ e))
+        pub pair_mid : t ≡ true → (d : List (List ℤ)) → d ≡ left_right f (l ∷ r ∷ []) → d ≡ channels_of h f bs
+        unfolding channels_of
+        pair_mid e d q = rw (bit, e) (q ∙ ap (left_right f) pair_is)
 
-          pub pair_mid : t ≡ true → (d : List (List ℤ)) → d ≡ left_right f (l ∷ r ∷ []) → d ≡ channels_of h f bs
-          unfolding channels_of
-          pair_mid e d q = rw (bit, e) (q ∙ ap (left_right f) pair_is)
+-- both blocks are whole, and the first one's bit 0 decides
+pub ruleset pairs = (first_whole, second_whole, pair_mid, pair_plain)

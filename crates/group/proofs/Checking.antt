@@ -7,15 +7,16 @@ use native.Mathlib.Omega.{arith}
 use lib.ListN.{length, length-drop}
 use lib.Dec.{eqb}
 use borrow.Author.Tests.{eq-eqb, ne_eqb}
+use borrow.Author.Rules.{part_to_end}
 use Rattle.format.specs.Blocks.{size_of, from_block}
-use Rattle.format.specs.Refusals.{nowhere, refuse, in_order, ◌then◌}
+use Rattle.format.specs.Refusals.{Checked, Fine, No, nowhere, refuse, in_order, ◌then◌}
 use Rattle.format.specs.Places.{at_channel, in_channel}
 use Rattle.format.specs.declared.refusals.Refusal.{Refusal}
 use Rattle.format.specs.declared.refusals.Place.{Place}
-use Rattle.format.specs.declared.refusals.Checked.{Checked}
-use Rattle.format.specs.declared.refusals.Checked.TheVariants.{Fine, No}
-use Rattle.laws.proofs.Places.{fine_located, no_located}
-use Rattle.laws.proofs.Reading.{order_stops, order_more}
+use Rattle.laws.proofs.Places.{fine_located, no_located, located_fine}
+use Rattle.laws.proofs.Chain.{turns_begin, turn_passes, turns_end_then}
+use Rattle.laws.proofs.Passed.{header_there, run_there}
+use Rattle.laws.proofs.Reading.{order_stops, order_more, rest_none, rest_more}
 use Rattle.group.proofs.Places.{part, part_is, Begins, begins_first, begins_more}
 
 -- n blocks in order, each of its channel, and then that no bytes are left
@@ -62,3 +63,6 @@ module _ {depth : ℕ} {check : ℕ → List ℕ → Checked} {bs : List ℕ} {c
     pub all_fine : (left : Refusal) → at ≡ length bs → Fine ≡ blocks_then depth check bs n left
     unfolding refuse ◌then◌
     all_fine left e = rw (order, eq-eqb (length (from_block depth bs n)) 0 (omega (arith, size)))
+
+-- a loop over the checks themselves
+pub ruleset passing = (rest_none, rest_more, part_to_end, turns_begin, turn_passes, turns_end_then, header_there, run_there, length-drop, located_fine)

@@ -1,4 +1,5 @@
 -- Groups of a file that opens, `count` from the group `first` on: where group first + k lies, and what its checks say.
+use Rattle.std.specs.Prelude.{Err}
 use Prim.Native.Nat.{ℕ, ◌+◌, ◌-◌, ◌^◌, ◌≤◌, ◌<◌}
 use mathlib.Core.Path.{◌≡◌, refl, sym, ap, ◌∙◌}
 use mathlib.Core.List.{List}
@@ -6,18 +7,14 @@ use native.Mathlib.Omega.{arith}
 use lib.ListN.{length, take, drop}
 use Rattle.format.specs.Numbers.{Below}
 use Rattle.format.specs.Header.{fields_of, groups_of, entry, group_bytes}
-use Rattle.format.specs.Refusals.{in_order}
-use Rattle.format.specs.Places.{at_group, in_group}
+use Rattle.format.specs.Refusals.{Checked, Fine, in_order}
+use Rattle.format.specs.Places.{in_group}
 use Rattle.format.specs.Opening.{check_open}
 use Rattle.format.specs.Decoding.{check_group}
-use Rattle.format.specs.declared.refusals.Refusal.{Refusal}
-use Rattle.format.specs.declared.refusals.Place.{Place}
-use Rattle.format.specs.declared.refusals.Checked.{Checked}
-use Rattle.format.specs.declared.refusals.Checked.TheVariants.{Fine, No}
+use Rattle.format.specs.declared.refusals.RefusedAt.{RefusedAt}
 use Rattle.format.specs.declared.settings.SampleFormat.{SampleFormat}
 use Rattle.format.specs.declared.answers.Fields.{Fields}
-use Rattle.laws.proofs.Places.{fine_located, no_located}
-use Rattle.laws.proofs.Reading.{order_ends, order_more}
+use Rattle.laws.proofs.Chain.{turn_stops, turn_passes}
 use Rattle.laws.proofs.Located.{groups_few}
 use Rattle.opening.proofs.Groups.{part_rises, part_within, part_checked}
 
@@ -47,12 +44,13 @@ module _ (s : List ℕ) (h : Fields) (opens : check_open s ≡ Fine) (reads : h 
         abbrev check : ℕ → Checked
         check i = in_group (first + i) (check_group h f (group_bytes s h (first + i)))
 
-        checked : (r : Checked) → c ≡ r → check_group h f (group_bytes s h (first + k)) ≡ r
-        checked r t = part_checked s h opens reads (groups_of h.frames) (first + k) a e refl group_there starts ends f c r says t
+        -- r the same in its place
+        module _ (r : Checked) (placed : r ≡ in_group (first + k) c) (fine : in_order check k ≡ Fine) where
+          next : r ≡ check k
+          next = placed ∙ ap (in_group (first + k)) (sym (part_checked s h opens reads (groups_of h.frames) (first + k) a e refl group_there starts ends f c c says refl))
 
-        pub run_stops : in_order check k ≡ Fine → (r : Refusal) (from at : Place) → c ≡ No r from → at ≡ at_group (first + k) from → No r at ≡ in_order check count
-        run_stops fine r from at t p =
-            order_ends check count k count refl fine r at below (no_located (at_group (first + k)) _ r from (checked (No r from) t) ∙ ap (No r) (sym p))
+          pub run_stops : (refused : RefusedAt) → r ≡ Err refused → Err refused ≡ in_order check count
+          run_stops refused t = turn_stops check k fine count r refused below next t
 
-        pub run_more : in_order check k ≡ Fine → c ≡ Fine → in_order check (k + 1) ≡ Fine
-        run_more fine t = order_more check k fine (fine_located (at_group (first + k)) _ (checked Fine t))
+          pub run_more : r ≡ Fine → in_order check (k + 1) ≡ Fine
+          run_more t = turn_passes check k fine r next t

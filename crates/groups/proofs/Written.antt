@@ -7,13 +7,13 @@ use native.Mathlib.Omega.{arith}
 use lib.IntN.{ℤ}
 use lib.ListN.{length, take, drop, length-append}
 use lib.Seq.{take-append_seam, drop-append-add, drop-drop}
+use Rattle.format.specs.Refusals.{Fine}
 use Rattle.format.specs.Lists.{joined, over}
 use Rattle.format.specs.Numbers.{Below}
 use Rattle.format.specs.Header.{fields_of, groups_of, entry, group_bytes}
 use Rattle.format.specs.Opening.{format_of, check_open}
 use Rattle.format.specs.Decoding.{check_group, channels_of, frame_of}
 use Rattle.format.specs.FewFrames.{check_frames, frames_at}
-use Rattle.format.specs.declared.refusals.Checked.TheVariants.{Fine}
 use Rattle.format.specs.declared.settings.SampleFormat.{SampleFormat}
 use Rattle.format.specs.declared.units.Frames.{Frames}
 use Rattle.format.specs.declared.answers.Fields.{Fields}

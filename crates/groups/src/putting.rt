@@ -1,14 +1,13 @@
 // Frames of an opened file, put into what is lent: group by group, each that they touch once.
 ghost use Rattle.std.specs.Prelude.{◌≡◌, ◌-◌, ◌*◌, ◌%◌, ◌≤◌, min, length};
+ghost use Rattle.format.specs.Refusals.{Fine};
 ghost use Rattle.format.specs.Lists.{over};
 ghost use Rattle.format.specs.Header.{fields_of};
 ghost use Rattle.format.specs.Opening.{format_of};
 ghost use Rattle.format.specs.FewFrames.{check_frames, frames_at};
-ghost use Rattle.format.specs.declared.refusals.Checked.TheVariants.{Fine};
-ghost use Rattle.lent_samples.specs.Lent.{lent_of, Put};
 
 use format::{Depth, Fields, Frames, SampleFormat};
-use lent_samples::{Container, Part};
+use lent_samples::{Part, Stored};
 
 // Where `done` frames are put and `left` are not, and the next is the file's frame `at`: that one and the others of its
 // group, up to the group's end or the last that is left.
@@ -31,10 +30,8 @@ fn part_at(at: u32, done: u32, left: u32) -> Part
 
 // Puts `count` frames from the frame `first` on at the front of what is lent. The groups that they touch have passed
 // their checks.
-pub fn put_frames(
-    which: Container,
-    words: &mut [i32],
-    bytes: &mut [u8],
+pub fn put_frames<E: Stored>(
+    lent: &mut [E],
     file: &[u8],
     h: Fields,
     format: SampleFormat,
@@ -43,20 +40,21 @@ pub fn put_frames(
 )
     requires { (check_frames file.now first count ≡ Fine) × (h ≡ fields_of file.now)
         × (format ≡ format_of file.now h)
-        × (count.0 * h.channels ≤ length (lent_of which words.old bytes.old)) }
-    ensures { Put which words.old bytes.old words.new bytes.new
-        (over (frames_at file.now first count)) }
+        × (count.0 * h.channels ≤ length (E.samples lent.old)) }
+    ensures puts { E.samples lent.new ≡ over (frames_at file.now first count) (E.samples lent.old) }
+    ensures keeps { E.rest lent.new ≡ E.rest lent.old }
 {
     let from = first.0;
     let all = count.0;
     let mut done: u32 = 0;
+    // A `while`, since it steps by the part's length.
     while done < all {
         let at = from + done;
         let g = at / Depth::SAMPLES_PER_BLOCK as u32;
         let a = opening::offset_of(file, h, g);
         let e = opening::offset_of(file, h, g + 1);
         let part = part_at(at, done, all - done);
-        group::put_group(which, words, bytes, &file[a..e], h, format, part);
+        group::put_group(lent, &file[a..e], h, format, part);
         done += part.count as u32;
     }
 }

@@ -10,8 +10,8 @@ ghost use Rattle.format.specs.Opening.{check_fields, check_offsets, bad_entry, c
 ghost use Rattle.format.specs.declared.refusals.Refusal.TheVariants.{EntryBounds};
 
 use format::{
-    Checked, Depth, FILE_SIGNATURE, FILE_SIGNATURE_30, FILE_SIGNATURE_31, Fields, Frames, NOWHERE,
-    Refusal,
+    Depth, FILE_SIGNATURE, FILE_SIGNATURE_30, FILE_SIGNATURE_31, Fields, Frames, Refusal,
+    RefusedAt, in_group, refuse,
 };
 use le_bytes::{read_u16_le, read_u32_le, read_u64_le};
 
@@ -50,40 +50,29 @@ pub fn read_fields(s: &[u8]) -> Fields
 }
 
 // The refusals of the fields alone. 10: zero channels. 11: depth not 8, 16, 24, 32. 12: zero rate.
-pub fn check_fields(h: Fields) -> Checked
+#[tactic(auto, using(laws::proofs::Chain::stages), unfolding(format::specs::Opening::check_fields))]
+pub fn check_fields(h: Fields) -> Result<(), RefusedAt>
     ensures { result ≡ check_fields h }
 {
-    if h.channels == 0 {
-        return Checked::No(Refusal::ZeroChannels, NOWHERE);
-    }
-    if Depth::is_depth(h.depth) {} else {
-        return Checked::No(Refusal::DepthUnknown, NOWHERE);
-    }
-    if h.rate == 0 {
-        return Checked::No(Refusal::ZeroRate, NOWHERE);
-    }
-    Checked::Fine
+    refuse(h.channels == 0, Refusal::ZeroChannels)?;
+    refuse(!Depth::is_depth(h.depth), Refusal::DepthUnknown)?;
+    refuse(h.rate == 0, Refusal::ZeroRate)
 }
 
 // The refusals of the offsets in a file of n bytes. 13: table offset under 120. 14: data offset under table offset.
 // 15: wrong table length. 1: the data end past the file.
-pub fn check_offsets(h: Fields, n: usize) -> Checked
+#[tactic(auto, using(laws::proofs::Chain::stages), unfolding(format::specs::Opening::check_offsets))]
+pub fn check_offsets(h: Fields, n: usize) -> Result<(), RefusedAt>
     ensures { result ≡ check_offsets h n }
 {
     let frames = h.frames;
-    if h.table < 120 {
-        return Checked::No(Refusal::TableOffset, NOWHERE);
-    }
-    if h.start < h.table {
-        return Checked::No(Refusal::DataOffset, NOWHERE);
-    }
-    if h.start - h.table != 4 * (frames.groups() + 1) {
-        return Checked::No(Refusal::TableLength, NOWHERE);
-    }
-    if n < h.start as usize + h.size as usize {
-        return Checked::No(Refusal::TooShort, NOWHERE);
-    }
-    Checked::Fine
+    refuse(h.table < 120, Refusal::TableOffset)?;
+    refuse(h.start < h.table, Refusal::DataOffset)?;
+    refuse(
+        h.start - h.table != 4 * (frames.groups() + 1),
+        Refusal::TableLength,
+    )?;
+    refuse(n < h.start as usize + h.size as usize, Refusal::TooShort)
 }
 
 // Entry k of the offset table: where group k begins in the data, and where group k - 1 ends.
@@ -97,56 +86,41 @@ pub fn entry_at(s: &[u8], h: Fields, k: u32) -> u32
 
 // Whether group k's end is past the data, before its start, or nearer to it than the smallest blocks that are read:
 // of width 1, a header of 16 bytes and 64 of values for each channel.
+#[tactic(auto, using(laws::proofs::Chain::either), unfolding(format::specs::Opening::bad_entry))]
 fn bad_entry(s: &[u8], h: Fields, k: u32) -> bool
     requires { (k < 8388608) × (h.table + 4 * k + 8 ≤ length s.now) }
     ensures { result ≡ bad_entry s.now h k }
 {
     let from = entry_at(s, h, k);
     let to = entry_at(s, h, k + 1);
-    if h.size < to {
-        return true;
-    }
-    if to < from {
-        return true;
-    }
-    to - from < 80 * (h.channels as u32)
+    h.size < to || to < from || to - from < 80 * (h.channels as u32)
 }
 
 // 19 over the groups below g in order: the first whose entries are bad.
-fn check_entries(s: &[u8], h: Fields, g: u32) -> Checked
+#[tactic(auto, using(laws::proofs::Chain::turns))]
+fn check_entries(s: &[u8], h: Fields, g: u32) -> Result<(), RefusedAt>
     requires { (g ≤ 8388608) × (h.table + 4 * (g + 1) ≤ length s.now) }
     ensures { let file = s.now in
         result ≡ in_order (λ k. in_group k (refuse (bad_entry file h k) EntryBounds)) g }
 {
-    let mut k: u32 = 0;
-    while k < g {
-        if bad_entry(s, h, k) {
-            return Checked::No(Refusal::EntryBounds, NOWHERE.at_group(k));
-        }
-        k += 1;
+    for k in 0..g {
+        in_group(k, refuse(bad_entry(s, h, k), Refusal::EntryBounds))?;
     }
-    Checked::Fine
+    Ok(())
 }
 
 // The refusals of the table. 16: the last entry is not the data size. Without groups 17: zero frames with data. With
 // groups 18: the first entry is not 0; and 19: some group's entries are bad.
-pub fn check_table(s: &[u8], h: Fields) -> Checked
+#[tactic(auto, using(laws::proofs::Chain::stages), unfolding(format::specs::Opening::check_table))]
+pub fn check_table(s: &[u8], h: Fields) -> Result<(), RefusedAt>
     requires { h.table + 4 * (groups_of h.frames + 1) ≤ length s.now }
     ensures { result ≡ check_table s.now h }
 {
     let frames = h.frames;
     let g = frames.groups();
-    if entry_at(s, h, g) != h.size {
-        return Checked::No(Refusal::LastEntry, NOWHERE);
-    }
-    if g == 0 {
-        if h.size != 0 {
-            return Checked::No(Refusal::DataWithoutFrames, NOWHERE);
-        }
-        return Checked::Fine;
-    }
-    if entry_at(s, h, 0) != 0 {
-        return Checked::No(Refusal::FirstEntry, NOWHERE);
-    }
+    let first = entry_at(s, h, 0);
+    refuse(entry_at(s, h, g) != h.size, Refusal::LastEntry)?;
+    refuse(g == 0 && h.size != 0, Refusal::DataWithoutFrames)?;
+    refuse(g != 0 && first != 0, Refusal::FirstEntry)?;
     check_entries(s, h, g)
 }

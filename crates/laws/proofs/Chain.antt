@@ -1,7 +1,8 @@
 -- Laws of a chain of checks, and of the tests in it, in the form that a way out of a function asks for: the checks
 -- before it passed, and the next one refuses or decides.
+use Rattle.std.specs.Prelude.{Err}
 use Prim.Native.Nat.{ℕ, ◌+◌, ◌<◌, ◌≤◌}
-use mathlib.Core.Path.{◌≡◌, refl, sym, ◌∙◌}
+use mathlib.Core.Path.{◌≡◌, refl, sym, ◌∙◌, subst}
 use mathlib.Core.Bool.{Bool, true, false, not, ◌&&◌, ◌||◌}
 use mathlib.Core.List.{List}
 use native.Mathlib.Omega.{arith}
@@ -9,16 +10,15 @@ use native.Mathlib.Numerals.{add-one}
 use lib.Dec.{ltb, eqb}
 use borrow.Author.Tests.{lt-ltb, le-ltb, eq-eqb, ne_eqb}
 use Rattle.format.specs.Lists.{any_below}
-use Rattle.format.specs.Refusals.{nowhere, refuse, ◌then◌}
+use Rattle.format.specs.Refusals.{Checked, Fine, No, nowhere, refuse, ◌then◌, in_order}
 use Rattle.format.specs.Answers.{refused_by, answered, filled}
 use Rattle.format.specs.declared.refusals.Refusal.{Refusal}
 use Rattle.format.specs.declared.refusals.Place.{Place}
-use Rattle.format.specs.declared.refusals.Checked.{Checked}
-use Rattle.format.specs.declared.refusals.Checked.TheVariants.{Fine, No}
+use Rattle.format.specs.declared.refusals.RefusedAt.{RefusedAt}
 use Rattle.format.specs.declared.answers.Outcome.{Outcome}
 use Rattle.format.specs.declared.answers.Answer.{Answer}
 use Rattle.laws.proofs.Tests.{never, and_no}
-use Rattle.laws.proofs.Checks.{found_below}
+use Rattle.laws.proofs.Checks.{found_below, order_refuses}
 
 -- ---- checks
 
@@ -73,6 +73,16 @@ pub ruleset flags = (flag_yes, flag_no, same_eqb, other_eqb)
 
 pub ruleset chain = (stop, stop_then, pass, pass_then, lt-ltb, le-ltb, eq-eqb, ne_eqb, not_yes, not_no, and_both, first_no, and_no, arith)
 
+-- ---- checks that are settled, before others
+
+pub err_then : (a b : Checked) (e : RefusedAt) → a ≡ Err e → (a then b) ≡ Err e
+unfolding ◌then◌
+err_then a b e h = rw h
+
+pub fine_then : (a b : Checked) → a ≡ Fine → (a then b) ≡ b
+unfolding ◌then◌
+fine_then a b h = rw h
+
 -- ---- checks that a callee answered: k is its answer, a what its contract says that it is, b what is asked after
 -- them
 
@@ -83,6 +93,11 @@ module _ (k a : Checked) (says : k ≡ a) where
   pub stops_at : (b : Checked) (r : Refusal) (at : Place) → k ≡ No r at → No r at ≡ (a then b)
   unfolding ◌then◌
   stops_at b r at e = rw (← says, e)
+
+  -- the same of what a `?` passes on
+  pub stops_with : (b : Checked) (e : RefusedAt) → k ≡ Err e → Err e ≡ (a then b)
+  unfolding ◌then◌
+  stops_with b e h = rw (← says, h)
 
   pub passes_on : (b x : Checked) → k ≡ Fine → x ≡ b → x ≡ (a then b)
   unfolding ◌then◌
@@ -99,6 +114,35 @@ module _ (k a : Checked) (says : k ≡ a) where
     keeps w before = rw (← says, e)
 
 pub ruleset stages = (settled, stops_at, passes_on)
+
+pub ruleset steps = (settled, stops_with, passes_on)
+
+-- checks in order, one each turn of a loop: the first c have passed, k is what the next one says
+module _ (check : ℕ → Checked) where
+  pub turns_begin : in_order check 0 ≡ Fine
+  unfolding in_order
+  turns_begin = refl
+
+  module _ (c : ℕ) (passed : in_order check c ≡ Fine) where
+    pub turn_passes : (k : Checked) → k ≡ check c → k ≡ Fine → in_order check (c + 1) ≡ Fine
+    unfolding in_order ◌then◌
+    turn_passes k says fine = rw add-one (rw (passed, ← says, fine))
+
+    pub turn_stops : (n : ℕ) (k : Checked) (e : RefusedAt) → c < n → k ≡ check c → k ≡ Err e → Err e ≡ in_order check n
+    turn_stops n k e l says refused = sym (order_refuses check n e.why e.place (record { at = c; below = l; before = passed; refuses = sym says ∙ refused }))
+
+    pub turn_stops_then : (n : ℕ) (k more : Checked) (e : RefusedAt) → c < n → k ≡ check c → k ≡ Err e → Err e ≡ (in_order check n then more)
+    unfolding ◌then◌
+    turn_stops_then n k more e l says refused = rw (← turn_stops n k e l says refused) refl
+
+    pub turns_end : (n : ℕ) → c ≡ n → Fine ≡ in_order check n
+    turns_end n e = sym (subst (λ (i : ℕ). in_order check i ≡ Fine) e passed)
+
+    pub turns_end_then : (n : ℕ) (more x : Checked) → c ≡ n → x ≡ more → x ≡ (in_order check n then more)
+    unfolding ◌then◌
+    turns_end_then n more x e q = rw (← turns_end n e) q
+
+pub ruleset turns = (turns_begin, turn_passes, turn_stops, turn_stops_then, turns_end, turns_end_then)
 
 -- then its room: n is there, m is asked for
 module _ (a : Checked) (fine : a ≡ Fine) (n m : ℕ) (r : Refusal) where

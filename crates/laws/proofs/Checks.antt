@@ -1,4 +1,5 @@
 -- Checks in order: all pass exactly where each passes, and the first that refuses is the refusal.
+use Rattle.std.specs.Prelude.{Ok, Err}
 use Prim.Native.Nat.{ℕ, zero, suc, ◌+◌, ◌-◌, ◌<◌, ◌≤◌}
 use mathlib.Core.Path.{◌≡◌, refl, sym, ap, ap₂, ◌∙◌, subst}
 use mathlib.Core.Bool.{Bool, true, false, ◌||◌}
@@ -8,11 +9,9 @@ use native.Mathlib.Nat.{add-zero, add-suc}
 use lib.Dec.{ltb, eqb}
 use borrow.Author.Tests.{ltb-false, eq-eqb}
 use Rattle.format.specs.Lists.{any_below}
-use Rattle.format.specs.Refusals.{number, refuse, ◌then◌, in_order}
+use Rattle.format.specs.Refusals.{Checked, Fine, No, number, refuse, ◌then◌, in_order}
 use Rattle.format.specs.declared.refusals.Refusal.{Refusal}
 use Rattle.format.specs.declared.refusals.Place.{Place}
-use Rattle.format.specs.declared.refusals.Checked.{Checked}
-use Rattle.format.specs.declared.refusals.Checked.TheVariants.{Fine, No}
 use Rattle.laws.proofs.Tests.{never, or_left, or_right}
 use Rattle.laws.proofs.Parts.{below_suc}
 
@@ -39,28 +38,28 @@ unfolding ◌then◌
 ◌then_same◌ {a} {b} {c} {d} e f = ap (λ (x : Checked). x then c) e ∙ by b f
   where
     by : (x : Checked) → (x ≡ Fine → c ≡ d) → (x then c) ≡ (x then d)
-    by Fine g = g refl
-    by (No r at) g = refl
+    by (Ok ok) g = g refl
+    by (Err refused) g = refl
 
 pub then_fine : (a : Checked) → (a then Fine) ≡ a
 unfolding ◌then◌
-then_fine Fine = refl
-then_fine (No r at) = refl
+then_fine (Ok ok) = refl
+then_fine (Err refused) = refl
 
 pub then_assoc : (a b c : Checked) → ((a then b) then c) ≡ (a then b then c)
 unfolding ◌then◌
-then_assoc Fine b c = refl
-then_assoc (No r at) b c = refl
+then_assoc (Ok ok) b c = refl
+then_assoc (Err refused) b c = refl
 
 pub first_fine : (a b : Checked) → (a then b) ≡ Fine → a ≡ Fine
 unfolding ◌then◌
-first_fine Fine b e = refl
-first_fine (No r at) b e = e
+first_fine (Ok ok) b e = refl
+first_fine (Err refused) b e = e
 
 pub others_fine : (a b : Checked) → (a then b) ≡ Fine → b ≡ Fine
 unfolding ◌then◌
-others_fine Fine b e = e
-others_fine (No r at) b e = cc
+others_fine (Ok ok) b e = e
+others_fine (Err refused) b e = cc
 
 -- what passed the check of the room has room
 pub has_room : (a : Checked) (room m : ℕ) (r : Refusal) → (a then refuse (ltb room m) r) ≡ Fine → m ≤ room
@@ -70,13 +69,30 @@ has_room a room m r e = ltb-false room m (passed _ _ (others_fine a _ e))
 abbrev pub Unsaid : Refusal → Checked → Type 0
 Unsaid x c = (at : Place) → c ≡ No x at → ⊥
 
+-- one that is said is the same and at the same place, as checks say it
+why_of : Refusal → Checked → Refusal
+why_of x (Ok ok) = x
+why_of x (Err refused) = refused.why
+
+place_of : Place → Checked → Place
+place_of at (Ok ok) = at
+place_of at (Err refused) = refused.place
+
+pub same_refusal : {x y : Refusal} {at there : Place} → No x at ≡ No y there → x ≡ y
+unfolding why_of
+same_refusal {x} e = ap (why_of x) e
+
+pub same_place : {x y : Refusal} {at there : Place} → No x at ≡ No y there → at ≡ there
+unfolding place_of
+same_place {x} {y} {at} e = ap (place_of at) e
+
 -- a check that refuses by another number
 pub unsaid : (x r : Refusal) (b : Bool) → eqb (number r) (number x) ≡ false → Unsaid x (refuse b r)
 unfolding refuse
 unsaid x r b differ = by b
   where
     by : (t : Bool) → Unsaid x (refuse t r)
-    by true at e = let q : r ≡ x = cc in never (sym (eq-eqb (number r) (number x) (ap number q)) ∙ differ)
+    by true at e = let q : r ≡ x = same_refusal e in never (sym (eq-eqb (number r) (number x) (ap number q)) ∙ differ)
     by false at e = let z : true ≡ false = cc in never z
 
 infixr 20 ◌nor◌
@@ -85,19 +101,19 @@ unfolding ◌then◌
 ◌nor◌ {x} {a} {b} p q = by a p
   where
     by : (c : Checked) → Unsaid x c → Unsaid x (c then b)
-    by Fine h = q
-    by (No r at) h = h
+    by (Ok ok) h = q
+    by (Err refused) h = h
 
 -- what one of them does not say the other one says
 pub said_after_lem : (x : Refusal) (at : Place) (a b : Checked) → Unsaid x a → (a then b) ≡ No x at → (a ≡ Fine) × (b ≡ No x at)
 unfolding ◌then◌
-said_after_lem x at Fine b p e = (refl, e)
-said_after_lem x at (No r there) b p e = absurd (p at e)
+said_after_lem x at (Ok ok) b p e = (refl, e)
+said_after_lem x at (Err refused) b p e = absurd (p at e)
 
 pub said_before : (x : Refusal) (at : Place) (a b : Checked) → Unsaid x b → (a then b) ≡ No x at → a ≡ No x at
 unfolding ◌then◌
-said_before x at Fine b p e = absurd (p at e)
-said_before x at (No r there) b p e = e
+said_before x at (Ok ok) b p e = absurd (p at e)
+said_before x at (Err refused) b p e = e
 
 -- ---- as many as there are: P n says that Q holds of each k below n
 
@@ -163,9 +179,9 @@ refusal_first check zero r place e = let z : ◌≡◌ {A = ℕ} 0 1 = cc in abs
 refusal_first check (suc n) r place e = by (in_order check n) refl (refusal_first check n)
   where
     by : (c : Checked) → in_order check n ≡ c → ((r : Refusal) (place : Place) → in_order check n ≡ No r place → FirstRefuses check n r place) → FirstRefuses check (suc n) r place
-    by Fine q i = record { at = n; below = omega arith; before = q; refuses = sym (ap (λ (a : Checked). a then check n) q) ∙ e }
-    by (No x there) q i =
-        let y : No x there ≡ No r place = sym (ap (λ (a : Checked). a then check n) q) ∙ e in
+    by (Ok ok) q i = record { at = n; below = omega arith; before = q; refuses = sym (ap (λ (a : Checked). a then check n) q) ∙ e }
+    by (Err refused) q i =
+        let y : Err refused ≡ No r place = sym (ap (λ (a : Checked). a then check n) q) ∙ e in
         let f = i r place (q ∙ y) in
         record { at = f.at; below = lt_suc f.at n f.below; before = f.before; refuses = f.refuses }
       where
@@ -192,8 +208,8 @@ unfolding ◌then◌
 order_twice check a m n l q = by (in_order check m) refl
   where
     by : (c : Checked) → in_order check m ≡ c → (c then in_order (λ k. check (a + k)) n) ≡ in_order check (a + n)
-    by Fine e = sym (order_add check a n ∙ (in_order_lem check a (λ k b. order_fine check k m (omega arith) e) and_then refl))
-    by (No r at) e =
+    by (Ok ok) e = sym (order_add check a n ∙ (in_order_lem check a (λ k b. order_fine check k m (omega arith) e) and_then refl))
+    by (Err refused) e =
         let d : a + n ≡ m + (a + n - m) = omega arith in
         sym (ap (in_order check) d ∙ order_add check m (a + n - m) ∙ ap (λ (c : Checked). c then in_order (λ k. check (m + k)) (a + n - m)) e)
 

@@ -12,15 +12,13 @@ use borrow.Author.Tests.{ltb-false, le-ltb, eq-eqb, ne_eqb}
 use Rattle.format.specs.Lists.{joined}
 use Rattle.format.specs.Header.{fields_of, groups_of, group_bytes}
 use Rattle.format.specs.Units.{active}
-use Rattle.format.specs.Refusals.{in_order}
+use Rattle.format.specs.Refusals.{Checked, Fine, in_order}
 use Rattle.format.specs.Places.{at_group}
 use Rattle.format.specs.Opening.{format_of, check_open}
 use Rattle.format.specs.Decoding.{check_group, channels_of, frame_of, woven, group_samples, check_decode, decoded_of}
 use Rattle.format.specs.Walking.{check_step}
 use Rattle.format.specs.FewFrames.{range_end, IsAsked, group_of, touched, check_frames, frame_at, frames_at}
 use Rattle.format.specs.declared.refusals.Refusal.TheVariants.{RangePastEnd}
-use Rattle.format.specs.declared.refusals.Checked.{Checked}
-use Rattle.format.specs.declared.refusals.Checked.TheVariants.{Fine}
 use Rattle.format.specs.declared.units.Frames.{Frames}
 use Rattle.format.specs.declared.answers.Fields.{Fields}
 use Rattle.laws.proofs.Parts.{length_below, joined_add, joined_cong}

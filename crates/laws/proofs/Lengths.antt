@@ -8,6 +8,7 @@ use native.Mathlib.Omega.{arith}
 use native.Mathlib.Nat.{mul-suc, mul-zero, mul-add, mul_comm}
 use lib.ListN.{length, get_or, take, drop, length-append, length-map}
 use lib.IntN.{ℤ, pos}
+use Rattle.format.specs.Refusals.{Fine}
 use Rattle.format.specs.Lists.{tab, joined}
 use Rattle.format.specs.Numbers.{value, plus}
 use Rattle.format.specs.Packed.{codes_in, values, rebuilt, is_beyond}
@@ -20,7 +21,6 @@ use Rattle.format.specs.Places.{at_group}
 use Rattle.format.specs.Decoding.{check_group, coded, channels_of, woven, group_samples, check_decode, decoded_of}
 use Rattle.format.specs.declared.packed.Coding.{Coding}
 use Rattle.format.specs.declared.packed.Coding.TheVariants.{Differences, Raw, Beyond}
-use Rattle.format.specs.declared.refusals.Checked.TheVariants.{Fine}
 use Rattle.format.specs.declared.settings.SampleFormat.{SampleFormat}
 use Rattle.format.specs.declared.units.Frames.{Frames}
 use Rattle.format.specs.declared.answers.Fields.{Fields}

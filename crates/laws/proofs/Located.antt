@@ -1,5 +1,6 @@
 -- Where the checks refuse: what holds of each refusal of theirs and its place, told from the checks that they are made
 -- of. Those of no group and no channel name nothing; checks in order name the first that refuses.
+use Rattle.std.specs.Prelude.{Ok, Err}
 use Prim.Native.Nat.{ℕ, ◌<◌, ◌≤◌}
 use mathlib.Core.Path.{◌≡◌, refl, sym, ap, ◌∙◌, subst}
 use mathlib.Core.Bool.{Bool, true, false}
@@ -12,7 +13,7 @@ use borrow.Author.Tests.{eqb-true}
 use Rattle.format.specs.Lists.{every, is_in}
 use Rattle.format.specs.Numbers.{Below}
 use Rattle.format.specs.Header.{fields_of, groups_of, group_bytes}
-use Rattle.format.specs.Refusals.{number, nowhere, refuse, ◌then◌, in_order}
+use Rattle.format.specs.Refusals.{Checked, Fine, No, number, nowhere, refuse, ◌then◌, in_order}
 use Rattle.format.specs.Blocks.{from_block}
 use Rattle.format.specs.Places.{at_group, at_channel, located, in_group}
 use Rattle.format.specs.Fit.{check_fit}
@@ -25,13 +26,11 @@ use Rattle.format.specs.Boundary.{samples_from, check_bytes, check_host_reencode
 use Rattle.format.specs.declared.refusals.Refusal.{Refusal}
 use Rattle.format.specs.declared.refusals.Refusal.TheVariants.{EntryBounds, BytesLeft}
 use Rattle.format.specs.declared.refusals.Place.{Place}
-use Rattle.format.specs.declared.refusals.Checked.{Checked}
-use Rattle.format.specs.declared.refusals.Checked.TheVariants.{Fine, No}
 use Rattle.format.specs.declared.settings.PcmSpec.{PcmSpec}
 use Rattle.format.specs.declared.settings.SampleFormat.{SampleFormat}
 use Rattle.format.specs.declared.answers.Fields.{Fields}
 use Rattle.laws.proofs.Tests.{never, and_left, and_right, either}
-use Rattle.laws.proofs.Checks.{Unsaid, in_order_lem, order_fine, order_refuses, refusal_first}
+use Rattle.laws.proofs.Checks.{same_refusal, same_place, Unsaid, in_order_lem, order_fine, order_refuses, refusal_first}
 use Rattle.laws.proofs.Places.{fine_located, located_fine, no_located, located_no}
 use Rattle.laws.proofs.Reading.{number_lt}
 
@@ -45,8 +44,8 @@ module _ (P : Refusal → Place → Type 0) where
 
   pub says_one : (x : Refusal) (from : Place) → P x from → Says P (No x from)
   says_one x from p r at e =
-      let q : x ≡ r = cc in
-      let l : from ≡ at = cc in
+      let q : x ≡ r = same_refusal e in
+      let l : from ≡ at = same_place e in
       subst (P r) l (subst (λ (y : Refusal). P y from) q p)
 
   -- a check says its refusal, and no place
@@ -69,7 +68,7 @@ module _ (P : Refusal → Place → Type 0) where
 -- one that refuses: its test holds, and it says its own refusal
 pub refused_so : (b : Bool) (x r : Refusal) (at : Place) → refuse b x ≡ No r at → (b ≡ true) × (r ≡ x) × (at ≡ nowhere)
 unfolding refuse
-refused_so true x r at e = (refl, cc, cc)
+refused_so true x r at e = (refl, sym (same_refusal e), sym (same_place e))
 refused_so false x r at e = let z : true ≡ false = cc in never z
 
 -- what both say; the second says it where the first passes
@@ -79,8 +78,8 @@ unfolding ◌then◌
 ◌says_then◌ {P} {a} {b} p q = by a p q
   where
     by : (c : Checked) → Says P c → (c ≡ Fine → Says P b) → Says P (c then b)
-    by Fine h next = next refl
-    by (No r at) h next = h
+    by (Ok ok) h next = next refl
+    by (Err refused) h next = h
 
 infixr 20 ◌and_says◌
 pub ◌and_says◌ : {P : Refusal → Place → Type 0} {a b : Checked} → Says P a → Says P b → Says P (a then b)

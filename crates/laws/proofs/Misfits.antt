@@ -10,13 +10,12 @@ use lib.IntN.{ℤ, pos}
 use borrow.Author.Tests.{not-false}
 use Rattle.format.specs.Lists.{every, first_not}
 use Rattle.format.specs.Numbers.{holds}
-use Rattle.format.specs.Refusals.{nowhere, refuse}
+use Rattle.format.specs.Refusals.{Fine, No, nowhere, refuse}
 use Rattle.format.specs.Fit.{misfit, check_fit}
 use Rattle.format.specs.declared.refusals.Refusal.TheVariants.{WidthTooSmall}
-use Rattle.format.specs.declared.refusals.Checked.TheVariants.{Fine, No}
 use Rattle.laws.proofs.Tests.{never}
 use Rattle.laws.proofs.Parts.{left_now}
-use Rattle.laws.proofs.Checks.{pass, passed}
+use Rattle.laws.proofs.Checks.{same_refusal, pass, passed}
 
 -- xs has its first that fails the test at k; d stands for what lies behind a list
 pub record FirstNot {A : Type 0} (test : A → Bool) (d : A) (xs : List A) (k : ℕ) : Type 0 where
@@ -98,7 +97,10 @@ module _ (width : ℕ) (vs : List ℤ) where
     where
       by : (t : Bool) → every (holds width) vs ≡ t → refuse (not t) (WidthTooSmall (misfit width vs)) ≡ No (WidthTooSmall k) nowhere → FirstMisfit width vs k
       by true q f = let z : true ≡ false = cc in never z
-      by false q f = let s : misfit width vs ≡ k = cc in rw (← s) (first_not_lem (holds width) (pos 0) vs q)
+      by false q f =
+          let told : WidthTooSmall (misfit width vs) ≡ WidthTooSmall k = same_refusal f in
+          let s : misfit width vs ≡ k = cc in
+          rw (← s) (first_not_lem (holds width) (pos 0) vs q)
 
   -- and only the first misfit is told
   pub tells_misfit : (k : ℕ) → FirstMisfit width vs k → check_fit width vs ≡ No (WidthTooSmall k) nowhere

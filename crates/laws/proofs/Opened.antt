@@ -11,13 +11,12 @@ use lib.Dec.{ltb}
 use borrow.Author.Tests.{ltb-false, eqb-true, eqb-false, not-false}
 use Rattle.format.specs.Header.{fields_of, groups_of, entry}
 use Rattle.format.specs.Units.{bits_in, is_depth, depth_of}
-use Rattle.format.specs.Refusals.{refuse}
+use Rattle.format.specs.Refusals.{Fine, refuse}
 use Rattle.format.specs.Places.{at_group}
 use Rattle.format.specs.Opening.{check_fields, check_offsets, bad_entry, check_table, check_open}
 use Rattle.format.specs.declared.units.Depth.{Depth}
 use Rattle.format.specs.declared.units.Depth.TheVariants.{Eight, Sixteen, TwentyFour, ThirtyTwo}
 use Rattle.format.specs.declared.refusals.Refusal.TheVariants.{EntryBounds}
-use Rattle.format.specs.declared.refusals.Checked.TheVariants.{Fine}
 use Rattle.format.specs.declared.answers.Fields.{Fields}
 use Rattle.format.proofs.UnitLaws.{depth_bits}
 use Rattle.laws.proofs.Tests.{or_left, or_right}

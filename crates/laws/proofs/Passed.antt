@@ -5,11 +5,11 @@ use mathlib.Core.Bool.{true, false}
 use mathlib.Core.List.{List}
 use lib.ListN.{length}
 use borrow.Author.Tests.{ltb-false}
+use Rattle.format.specs.Refusals.{Fine}
 use Rattle.format.specs.Packed.{is_beyond}
 use Rattle.format.specs.Blocks.{mid_bit, coding_of, size_of, from_block}
 use Rattle.format.specs.Places.{at_channel}
 use Rattle.format.specs.Decoding.{check_block, check_group}
-use Rattle.format.specs.declared.refusals.Checked.TheVariants.{Fine}
 use Rattle.format.specs.declared.settings.SampleFormat.{SampleFormat}
 use Rattle.format.specs.declared.answers.Fields.{Fields}
 use Rattle.laws.proofs.Tests.{asks_two}

@@ -1,15 +1,14 @@
 -- Where it refused: checks that are located pass exactly where they pass, and refuse what they refuse.
+use Rattle.std.specs.Prelude.{Ok, Err}
 use Prim.Native.Nat.{ℕ, ◌<◌}
-use mathlib.Core.Path.{◌≡◌, refl, ap}
+use mathlib.Core.Path.{sym, ◌≡◌, refl, ap}
 use mathlib.Core.Bool.{true, false}
-use Rattle.format.specs.Refusals.{in_order}
+use Rattle.format.specs.Refusals.{Checked, Fine, No, in_order}
 use Rattle.format.specs.Places.{located}
 use Rattle.format.specs.declared.refusals.Refusal.{Refusal}
 use Rattle.format.specs.declared.refusals.Place.{Place}
-use Rattle.format.specs.declared.refusals.Checked.{Checked}
-use Rattle.format.specs.declared.refusals.Checked.TheVariants.{Fine, No}
 use Rattle.laws.proofs.Tests.{never}
-use Rattle.laws.proofs.Checks.{in_order_lem, order_fine}
+use Rattle.laws.proofs.Checks.{same_refusal, same_place, in_order_lem, order_fine}
 
 module _ (move : Place → Place) where
   pub fine_located : (k : Checked) → k ≡ Fine → located move k ≡ Fine
@@ -18,8 +17,8 @@ module _ (move : Place → Place) where
 
   pub located_fine : (k : Checked) → located move k ≡ Fine → k ≡ Fine
   unfolding located
-  located_fine Fine e = refl
-  located_fine (No r at) e = cc
+  located_fine (Ok ok) e = refl
+  located_fine (Err refused) e = cc
 
   pub no_located : (k : Checked) (r : Refusal) (at : Place) → k ≡ No r at → located move k ≡ No r (move at)
   unfolding located
@@ -27,11 +26,11 @@ module _ (move : Place → Place) where
 
   pub located_no : (k : Checked) (r : Refusal) (at : Place) → located move k ≡ No r at → (from : Place) × (k ≡ No r from) × (at ≡ move from)
   unfolding located
-  located_no Fine r at e = let z : true ≡ false = cc in never z
-  located_no (No x from) r at e =
-      let q : x ≡ r = cc in
-      let p : at ≡ move from = cc in
-      (from, ap (λ (y : Refusal). No y from) q, p)
+  located_no (Ok ok) r at e = let z : true ≡ false = cc in never z
+  located_no (Err refused) r at e =
+      let q : refused.why ≡ r = same_refusal e in
+      let p : at ≡ move refused.place = sym (same_place e) in
+      (refused.place, ap (λ (y : Refusal). No y refused.place) q, p)
 
 -- one of the checks in order, each in its place
 pub located_at : (check : ℕ → Checked) (move : ℕ → Place → Place) (k n : ℕ) → k < n → in_order (λ i. located (move i) (check i)) n ≡ Fine → check k ≡ Fine

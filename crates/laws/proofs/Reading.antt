@@ -12,12 +12,10 @@ use lib.Seq.{drop-cons, drop-drop}
 use Rattle.format.specs.Lists.{from}
 use Rattle.format.specs.Numbers.{num, Below, num_at}
 use Rattle.format.specs.Blocks.{size_of, from_block}
-use Rattle.format.specs.Refusals.{nowhere, refuse, ◌then◌, in_order}
+use Rattle.format.specs.Refusals.{Checked, Fine, No, nowhere, refuse, ◌then◌, in_order}
 use Rattle.format.specs.Places.{at_group, in_group}
 use Rattle.format.specs.declared.refusals.Refusal.{Refusal}
 use Rattle.format.specs.declared.refusals.Place.{Place}
-use Rattle.format.specs.declared.refusals.Checked.{Checked}
-use Rattle.format.specs.declared.refusals.Checked.TheVariants.{Fine, No}
 use Rattle.laws.proofs.Each.{each_drop}
 use Rattle.laws.proofs.Checks.{pass, order_refuses}
 use Rattle.laws.proofs.Places.{fine_located, no_located}

@@ -15,10 +15,9 @@ use Rattle.format.specs.Lists.{every, is_in}
 use Rattle.format.specs.Units.{bits_in, within, is_depth, depth_of, depth_word}
 use Rattle.format.specs.Encoding.{check_spec, check_encoder, check_samples}
 use Rattle.format.specs.Reencoding.{check_reencoder}
-use Rattle.format.specs.Refusals.{number}
+use Rattle.format.specs.Refusals.{Fine, number}
 use Rattle.format.specs.declared.units.Depth.{Depth}
 use Rattle.format.specs.declared.units.Depth.TheVariants.{Eight, Sixteen, TwentyFour, ThirtyTwo}
-use Rattle.format.specs.declared.refusals.Checked.TheVariants.{Fine}
 use Rattle.format.specs.declared.refusals.Refusal.{Refusal}
 use Rattle.format.specs.declared.settings.PcmSpec.{PcmSpec}
 use Rattle.format.proofs.UnitLaws.{depth_bits, within_holds}

@@ -13,10 +13,9 @@ use lib.Signed.{mag}
 use lib.Dec.{ltb, eqb}
 use borrow.Author.Tests.{ltb-true, ltb-false, eqb-true, eqb-false, lt-ltb, le-ltb, eq-eqb, ne_eqb}
 use Rattle.format.specs.Numbers.{num, Below}
-use Rattle.format.specs.Refusals.{nowhere, refuse, ◌then◌}
+use Rattle.format.specs.Refusals.{Fine, No, nowhere, refuse, ◌then◌}
 use Rattle.format.specs.SevenBits.{seven_in, seven, marked, seven_length, seven_value, check_seven, past, folded, unfolded}
 use Rattle.format.specs.declared.refusals.Refusal.TheVariants.{NumberCut, NumberLong, NumberTooLarge}
-use Rattle.format.specs.declared.refusals.Checked.TheVariants.{Fine, No}
 use Rattle.laws.proofs.Tests.{never, and_left, and_right}
 use Rattle.laws.proofs.Chain.{stop, stop_then, and_both}
 use Rattle.laws.proofs.Checks.{pass, passed, ◌and_then◌, first_fine, others_fine, unsaid, ◌nor◌, said_after_lem, said_before}

@@ -1,5 +1,6 @@
 -- Document 02, L7: a summary of peaks. One that was written reads as what was written; one that passes is the bytes of
 -- its numbers, so that two which read alike are equal; how long one is; and by which number its bytes are refused.
+use Rattle.std.specs.Prelude.{Ok, Err}
 use Prim.Native.Nat.{ℕ, zero, suc, ◌+◌, ◌-◌, ◌*◌, ◌/◌, ◌%◌, ◌^◌, ◌≤◌, ◌<◌}
 use mathlib.Core.Path.{◌≡◌, refl, sym, ap, ap₂, ◌∙◌, subst}
 use mathlib.Core.Bool.{Bool, true, false, not}
@@ -16,14 +17,12 @@ use borrow.Author.Tests.{ltb-true, ltb-false, eqb-true, eqb-false, lt-ltb, le-lt
 use Rattle.format.specs.Lists.{joined, from, every, is_in}
 use Rattle.format.specs.Numbers.{Below}
 use Rattle.format.specs.Header.{groups_of}
-use Rattle.format.specs.Refusals.{number, nowhere, refuse, ◌then◌, in_order}
+use Rattle.format.specs.Refusals.{Checked, Fine, No, number, nowhere, refuse, ◌then◌, in_order}
 use Rattle.format.specs.SevenBits.{seven, seven_length, seven_value, check_seven, past, folded, unfolded}
 use Rattle.format.specs.Peaks.{pair_number, pair_samples, pairs_from, check_peak, check_all_peaks, peak_of, pair_bytes, summary_bytes, summary_frames, summary_channels, pair_count, from_pair, pair_of, check_two, check_pair, check_summary}
 use Rattle.format.specs.declared.refusals.Refusal.{Refusal}
 use Rattle.format.specs.declared.refusals.Refusal.TheVariants.{ZeroChannels, OutputTooShort, BytesBehind, PeaksCrossed, PairPastEnd}
 use Rattle.format.specs.declared.refusals.Place.{Place}
-use Rattle.format.specs.declared.refusals.Checked.{Checked}
-use Rattle.format.specs.declared.refusals.Checked.TheVariants.{Fine, No}
 use Rattle.format.specs.declared.units.Frames.{Frames}
 use Rattle.format.specs.declared.answers.Peak.{Peak}
 use Rattle.laws.proofs.Parts.{length_even, part_at, joined_add, joined_cong, length_most}
@@ -374,8 +373,8 @@ module _ (t : List ℕ) where
   two_so x = by (check_seven t)
     where
       by : (c : Checked) → (c then check_seven (past t 1)) ≡ No x nowhere → (c ≡ No x nowhere) ⊎ ((c ≡ Fine) × (check_seven (past t 1) ≡ No x nowhere))
-      by Fine e = inr (refl, e)
-      by (No r at) e = inl e
+      by (Ok ok) e = inr (refl, e)
+      by (Err refused) e = inl e
 
   so_two : (x : Refusal) → NumberSays x t → check_two t ≡ No x nowhere
   unfolding check_two ◌then◌
@@ -509,10 +508,10 @@ module _ (s : List ℕ) where
       other n = ne_eqb n (number x)
 
       by : (c : Checked) → check_two s ≡ c → NumberSays x s ⊎ ((k : ℕ) × ComesTo s k × NumberSays x (from_pair s k))
-      by Fine fine =
+      by (Ok ok) fine =
           let p = pair_so x (other 10 (λ z. omega arith)) (other 63 (λ z. omega arith)) fine (sym (ap (λ (y : Checked). y then none then pairs then behind) fine) ∙ e) in
           inr (p.0, p.1, pair_two_so (from_pair s p.0) x (other 64 (λ z. omega arith)) p.2)
-      by (No r at) q = inl (two_so s x (q ∙ sym (ap (λ (y : Checked). y then none then pairs then behind) q) ∙ e))
+      by (Err refused) q = inl (two_so s x (q ∙ sym (ap (λ (y : Checked). y then none then pairs then behind) q) ∙ e))
 
   pub so_number : (x : Refusal) → NumberSays x s ⊎ ((k : ℕ) × ComesTo s k × NumberSays x (from_pair s k)) → check_summary s ≡ No x nowhere
   unfolding check_summary ◌then◌

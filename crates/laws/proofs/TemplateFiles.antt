@@ -12,12 +12,12 @@ use lib.IntN.{ℤ}
 use lib.Dec.{leb}
 use borrow.Author.Tests.{ltb-false, leb-false, eqb-true, not-false}
 use mathlib.Core.Bool.{true}
+use Rattle.format.specs.Refusals.{Fine}
 use Rattle.format.specs.Lists.{joined}
 use Rattle.format.specs.Header.{is_signature, fields_of, groups_of, entry, group_bytes}
 use Rattle.format.specs.Encoding.{group_in, check_samples, frames_of}
 use Rattle.format.specs.Places.{at_group}
 use Rattle.format.specs.Reencoding.{check_reencode_group, reencoded_group, check_same, check_bounds, check_rising, check_template, check_reencoder, check_reencode, reencoded_file}
-use Rattle.format.specs.declared.refusals.Checked.TheVariants.{Fine}
 use Rattle.format.specs.declared.settings.PcmSpec.{PcmSpec}
 use Rattle.format.specs.declared.answers.Fields.{Fields}
 use Rattle.laws.proofs.Parts.{below_suc, length_from}

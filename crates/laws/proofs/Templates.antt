@@ -9,6 +9,7 @@ use lib.Seq.{length-take-le}
 use lib.IntN.{ℤ}
 use lib.Dec.{eqb}
 use borrow.Author.Tests.{le-ltb, ltb-false, ne_eqb, eqb-true, eqb-false, not-false}
+use Rattle.format.specs.Refusals.{Fine}
 use Rattle.format.specs.Lists.{from, joined}
 use Rattle.format.specs.Numbers.{num_at, code_of}
 use Rattle.format.specs.Packed.{width_of, packing, is_beyond}
@@ -19,7 +20,6 @@ use Rattle.format.specs.Encoding.{unwoven, first_value, mid_side, parity}
 use Rattle.format.specs.Places.{at_channel}
 use Rattle.format.specs.Reencoding.{values_for, base_for, reencoded_block, check_template_block, check_reencode_block, active_in, check_reencode_group, reencoded_group}
 use Rattle.format.specs.Fit.{check_fit}
-use Rattle.format.specs.declared.refusals.Checked.TheVariants.{Fine}
 use Rattle.laws.proofs.Tests.{asks_two}
 use Rattle.laws.proofs.Parts.{length_from}
 use Rattle.laws.proofs.Checks.{pass, ◌and_then◌, first_fine, others_fine, passed}

@@ -1,3 +1,2 @@
--- the bytes of a number; a run copied
+-- the bytes of a number, read and put
 pub mod Laws
-pub mod Copying

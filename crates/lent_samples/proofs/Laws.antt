@@ -1,4 +1,4 @@
--- Lent samples: what each container holds, and what a store does.
+-- Samples in bytes, four to a sample: how many there are, what each is, and what a store does.
 use mathlib.Core.Path.{◌≡◌, refl, sym, ap, ◌∙◌}
 use mathlib.Core.List.{List, [], ◌∷◌, append_assoc}
 use Prim.Native.Nat.{ℕ, suc, ◌+◌, ◌-◌, ◌*◌, ◌/◌, ◌^◌, ◌<◌, ◌≤◌}
@@ -16,9 +16,7 @@ use Rattle.format.specs.Boundary.{samples_from}
 use Rattle.laws.proofs.Parts.{length_tab, get_d_tab, is_tab}
 use Rattle.laws.proofs.Digits.{length_le, num_at_lem}
 use Rattle.laws.proofs.Signs.{value_code}
-use Rattle.lent_samples.specs.Lent.{lent_of, rest_of}
-use Rattle.lent_samples.specs.declared.Container.{Container}
-use Rattle.lent_samples.specs.declared.Container.TheVariants.{Words, Bytes}
+use Rattle.lent_samples.specs.Lent.{bytes_behind}
 
 -- ---- a run of stores, and the parts beside it
 module _ {A : Type 0} where
@@ -67,7 +65,7 @@ module _ (b : List ℕ) (i n : ℕ) (h : i < length b / 4) where
       ]
 
   -- four bytes stored are one sample stored
-  pub lent_put : n < 2 ^ 32 → samples_from b' ≡ set (samples_from b) i (value 32 n)
+  lent_put : n < 2 ^ 32 → samples_from b' ≡ set (samples_from b) i (value 32 n)
   unfolding samples_from
   lent_put f =
       is_tab (pos 0) (length b' / 4) (λ k. value 32 (num_at (4 * k) 4 b')) (set (samples_from b) i (value 32 n))
@@ -81,58 +79,24 @@ module _ (b : List ℕ) (i n : ℕ) (h : i < length b / 4) where
             | no e ↦ get_or-set_other (samples_from b) i k (value 32 n) (pos 0) e ∙ lent_at b k (omega (arith, length-sets b (i * 4) (le 4 n))) ∙ ap (value 32) (number_other k e)
           ]
 
-  pub rest_put : drop (length b' / 4 * 4) b' ≡ drop (length b / 4 * 4) b
+  rest_put : bytes_behind b' ≡ bytes_behind b
   rest_put = rw (length-sets b (i * 4) (le 4 n)) (drop_sets (le 4 n) b (i * 4) (length b / 4 * 4) (omega (arith, four)))
 
--- ---- either container
-module _ {k : Container} (w : List ℤ) (b : List ℕ) where
-  pub in_words : k ≡ Words → lent_of k w b ≡ w
-  in_words e = rw e
+-- ---- sample i by a call that reads four bytes, or stores them
+module _ (b : List ℕ) (i : ℕ) (h : i < length (samples_from b)) where
+  among : i < length b / 4
+  among = omega (arith, length_lent b)
 
-  pub in_bytes : k ≡ Bytes → lent_of k w b ≡ samples_from b
-  in_bytes e = rw e
+  pub bytes_say : {n : ℕ} {v : ℤ} → n ≡ num_at (i * 4) 4 b → v ≡ value 32 n → v ≡ get_or (samples_from b) i (pos 0)
+  bytes_say p q =
+      let m : i * 4 ≡ 4 * i = omega arith in
+      q ∙ ap (value 32) (p ∙ ap (λ (j : ℕ). num_at j 4 b) m) ∙ sym (lent_at b i among)
 
-  pub count_words : k ≡ Words → length w ≡ length (lent_of k w b)
-  count_words e = rw (in_words e)
-
-  pub count_bytes : k ≡ Bytes → length b / 4 ≡ length (lent_of k w b)
-  count_bytes e = rw (in_bytes e) (sym (length_lent b))
-
-  module _ (i : ℕ) (h : i < length (lent_of k w b)) where
-    pub word_in : k ≡ Words → i < length w
-    word_in e = rw (in_words e) at h
-
-    pub bytes_in_lem : k ≡ Bytes → i < length b / 4
-    bytes_in_lem e = rw (← count_bytes e) at h
-
-    pub words_say : k ≡ Words → get_or w i (pos 0) ≡ get_or (lent_of k w b) i (pos 0)
-    words_say e = rw e
-
-    pub bytes_say : k ≡ Bytes → {n : ℕ} {v : ℤ} → n ≡ num_at (i * 4) 4 b → v ≡ value 32 n → v ≡ get_or (lent_of k w b) i (pos 0)
-    bytes_say e p q =
-        let m : i * 4 ≡ 4 * i = omega arith in
-        q ∙ ap (value 32) (p ∙ ap (λ (j : ℕ). num_at j 4 b) m) ∙ sym (rw (in_bytes e) (lent_at b i (bytes_in_lem e)))
-
-    pub words_put : k ≡ Words → (v : ℤ) → lent_of k (set w i v) b ≡ set (lent_of k w b) i v
-    words_put e v = rw e
-
-    pub words_keep : k ≡ Words → (v : ℤ) → rest_of k (set w i v) b ≡ rest_of k w b
-    words_keep e v = rw e
-
-    pub bytes_put : k ≡ Bytes → (v : ℤ) (n : ℕ) {b'' : List ℕ} → SFits w32 v → n < 2 ^ 32 → n ≡ code_of 32 (to_z w32 (of_z w32 v)) → b'' ≡ sets b (i * 4) (le 4 n)
-        → lent_of k w b'' ≡ set (lent_of k w b) i v
-    bytes_put e v n f g p q =
+  module _ (n : ℕ) {b'' : List ℕ} (stored : b'' ≡ sets b (i * 4) (le 4 n)) where
+    pub bytes_put : (v : ℤ) → SFits w32 v → n < 2 ^ 32 → n ≡ code_of 32 (to_z w32 (of_z w32 v)) → samples_from b'' ≡ set (samples_from b) i v
+    bytes_put v f g p =
         let s : value 32 n ≡ v = ap (value 32) (p ∙ ap (code_of 32) (to_z-of_z w32 v f)) ∙ value_code 32 (omega arith) v f.sfits in
-        rw (e, q, lent_put b i n (bytes_in_lem e) g) (ap (set (samples_from b) i) s)
+        rw (stored, lent_put b i n among g) (ap (set (samples_from b) i) s)
 
-    pub bytes_keep : k ≡ Bytes → (n : ℕ) {b'' : List ℕ} → b'' ≡ sets b (i * 4) (le 4 n) → rest_of k w b'' ≡ rest_of k w b
-    bytes_keep e n q = rw (e, q, rest_put b i n (bytes_in_lem e))
-
-pub count_lt : (k : Container) (w : List ℤ) (b : List ℕ) (m : ℕ) → length w < m → length b < m → length (lent_of k w b) < m
-count_lt Words w b m p q = p
-count_lt Bytes w b m p q = omega (arith, length_lent b)
-
--- how many samples there are goes by the lengths alone
-pub same_count : (k : Container) (w v : List ℤ) (b d : List ℕ) → length w ≡ length v → length b ≡ length d → length (lent_of k w b) ≡ length (lent_of k v d)
-same_count Words w v b d p q = p
-same_count Bytes w v b d p q = length_lent b ∙ ap (λ (n : ℕ). n / 4) q ∙ sym (length_lent d)
+    pub bytes_keep : bytes_behind b'' ≡ bytes_behind b
+    bytes_keep = rw stored (rest_put b i n among)

@@ -1,4 +1,4 @@
--- what is put into lent samples, as lists; what each container holds; a turn of each loop; that a promise fixes all that is lent
+-- what is put into lent samples, as lists; samples in bytes; a turn of each loop; that a promise fixes all bytes that are lent
 pub mod Weave
 pub mod Laws
 pub mod Runs

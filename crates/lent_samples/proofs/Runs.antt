@@ -1,8 +1,8 @@
--- What a turn of each loop over lent samples adds; none of it knows a container.
+-- What a turn of each loop over lent samples adds, as lists of samples.
 use mathlib.Core.Path.{◌≡◌, refl, ap, ◌∙◌}
 use mathlib.Core.List.{List, [], ◌∷◌, ◌++◌, map, append_assoc}
 use Prim.Native.Nat.{ℕ, suc, ◌+◌, ◌*◌, ◌<◌, ◌≤◌}
-use native.Mathlib.Nat.{add-mul, suc-mul, zero-mul, mul-le-mul_left}
+use native.Mathlib.Nat.{add-mul, suc-mul, zero-mul}
 use native.Mathlib.Omega.{arith}
 use native.Mathlib.Numerals.{add-one}
 use lib.Arith.{digits_lt}
@@ -12,12 +12,9 @@ use lib.Seq.{take-suc, get_or-drop}
 use Rattle.format.specs.Lists.{joined, from}
 use Rattle.laws.proofs.Parts.{length_from}
 use Rattle.lent_samples.specs.Lent.{placed, strided, woven_from}
-use Rattle.lent_samples.proofs.Weave.{length_woven, placed_none, placed_more}
+use Rattle.lent_samples.proofs.Weave.{length_placed, length_woven, placed_none, placed_more}
 
 -- ---- one channel
-pub frame_le : (f ch c : ℕ) → c < ch → f ≤ f * ch + c
-frame_le f ch c h = let g : 1 ≤ ch = omega arith in omega (arith, mul-le-mul_left f g)
-
 -- where frame k of the n from `first` on has channel c
 pub place_in : {m : ℕ} (first n k ch c : ℕ) → k < n → c < ch → (first + n) * ch ≤ m → (first + k) * ch + c < m
 place_in first n k ch c g h l = let p : first + k < first + n = omega arith in omega (arith, digits_lt p h)
@@ -59,6 +56,12 @@ woven_more : (skip k : ℕ) (a : List (List ℤ)) → length a ≡ 2
     → woven_from skip (k + 1) a ≡ (woven_from skip k a ++ (get_or (get_or a 0 []) (skip + k) (pos 0) ∷ [])) ++ (get_or (get_or a 1 []) (skip + k) (pos 0) ∷ [])
 unfolding woven_from joined
 woven_more skip k a e = rw add-one (rw (two (λ (ch : List ℤ). get_or ch (skip + k) (pos 0)) a e, append_assoc))
+
+pub woven_long : (s : List ℤ) (a : List (List ℤ)) (first skip k : ℕ) → length a ≡ 2 → (first + k) * 2 ≤ length s
+    → length (placed (first * 2) (woven_from skip k a) s) ≡ length s
+woven_long s a first skip k g h =
+    let l : length (woven_from skip k a) ≡ 2 * k = length_woven skip k a ∙ ap (λ (n : ℕ). n * k) g in
+    length_placed (first * 2) (woven_from skip k a) s (omega arith)
 
 -- two stores at the end of what was put are one frame more
 pub woven_turn : (s : List ℤ) (a : List (List ℤ)) (first skip k : ℕ) {i j : ℕ} {x y : ℤ} → length a ≡ 2 → (first + k) * 2 + 2 ≤ length s

@@ -1,25 +1,21 @@
 -- Samples that are lent as numbers or as bytes, four to a sample.
-use Rattle.std.specs.Prelude.{ℕ, ◌+◌, ◌*◌, ◌/◌, ◌≤◌, ◌<◌, ◌≡◌, List, [], ◌∷◌, ◌++◌, length, take, drop, set, ℤ}
+use Rattle.std.specs.Prelude.{ℕ, ◌+◌, ◌*◌, ◌/◌, ◌≤◌, ◌<◌, List, [], ◌∷◌, ◌++◌, length, take, drop, set, ℤ}
+use Rattle.std.proofs.Common.{arith}
 use Rattle.format.specs.Lists.{joined, from}
+use Rattle.format.specs.Numbers.{num_at, value}
 use Rattle.format.specs.Decoding.{frame_of}
 use Rattle.format.specs.Boundary.{samples_from}
-use Rattle.lent_samples.specs.declared.Container.{Container}
+use Rattle.laws.proofs.Parts.{length_tab}
 use Rattle.lent_samples.specs.declared.Part.{Part}
-use Rattle.lent_samples.specs.declared.Container.TheVariants.{Words, Bytes}
 
--- the samples that are lent, of the words w and the bytes b
-abbrev pub lent_of : Container → List ℤ → List ℕ → List ℤ
-lent_of Words w b = w
-lent_of Bytes w b = samples_from b
+-- the bytes behind the last whole sample
+abbrev pub bytes_behind : List ℕ → List ℕ
+bytes_behind b = drop (length b / 4 * 4) b
 
--- what is lent besides
-pub record Rest : Type 0 where
-  pub words : List ℤ
-  pub bytes : List ℕ
-
-abbrev pub rest_of : Container → List ℤ → List ℕ → Rest
-rest_of Words w b = record { words = []; bytes = b }
-rest_of Bytes w b = record { words = w; bytes = drop (length b / 4 * 4) b }
+-- there are no more samples in bytes than bytes
+pub bytes_at_most : (b : List ℕ) → length (samples_from b) ≤ length b
+unfolding samples_from
+bytes_at_most b = omega (arith, length_tab (length b / 4) (λ k. value 32 (num_at (4 * k) 4 b)))
 
 -- xs put into s from i on
 unfoldable pub placed : ℕ → List ℤ → List ℤ → List ℤ
@@ -33,11 +29,6 @@ strided s p step (x ∷ xs) = strided (set s p x) (p + step) step xs
 -- the n frames of the channels from the frame `skip` on, interleaved
 unfoldable pub woven_from : ℕ → ℕ → List (List ℤ) → List ℤ
 woven_from skip n chans = joined (λ i. frame_of chans (skip + i)) n
-
--- all that is lent, before and after: the samples become what `change` makes of them, and the rest stays
-abbrev pub Put : Container → List ℤ → List ℕ → List ℤ → List ℕ → (List ℤ → List ℤ) → Type 0
-Put which w b w' b' change =
-    (lent_of which w' b' ≡ change (lent_of which w b)) × (rest_of which w' b' ≡ rest_of which w b)
 
 -- the part lies within a group's 512 frames, and within the samples s
 abbrev pub PartFits : Part → ℕ → List ℤ → Type 0

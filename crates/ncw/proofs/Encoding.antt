@@ -4,12 +4,11 @@ use mathlib.Core.Path.{◌≡◌, refl, ap, ◌∙◌}
 use mathlib.Core.List.{List}
 use lib.ListN.{length}
 use borrow.Author.Tests.{lt-ltb, le-ltb, ne_eqb}
-use Rattle.format.specs.Refusals.{nowhere, refuse, ◌then◌}
+use Rattle.format.specs.Refusals.{No, nowhere, refuse, ◌then◌}
 use Rattle.format.specs.Encoding.{encoded_file, check_encode_into, encode_of, encode_into}
 use Rattle.format.specs.Boundary.{samples_from, is_mode, mode_of, check_mode, result_of, check_host_encode, host_encode, host_encode_into}
 use Rattle.format.specs.declared.refusals.Refusal.{Refusal}
 use Rattle.format.specs.declared.refusals.Refusal.TheVariants.{UnknownMode, SampleBytes}
-use Rattle.format.specs.declared.refusals.Checked.TheVariants.{No}
 use Rattle.format.specs.declared.settings.PcmSpec.{PcmSpec}
 use Rattle.format.specs.declared.settings.StereoMode.{StereoMode}
 use Rattle.format.specs.declared.settings.StereoMode.TheVariants.{Auto, Direct, MidSide}

@@ -1,4 +1,5 @@
 -- What the host is told and finds in its bytes, from what opening, decoding and reading a few frames answer and put.
+use Rattle.std.specs.Prelude.{Ok, Err}
 use Prim.Native.Nat.{ℕ, ◌*◌, ◌/◌, ◌≤◌, ◌<◌}
 use mathlib.Core.Path.{◌≡◌, refl, sym, ap, ◌∙◌}
 use mathlib.Core.List.{List}
@@ -7,7 +8,7 @@ use lib.ListN.{length, drop}
 use lib.IntN.{ℤ}
 use Rattle.format.specs.Numbers.{Below}
 use Rattle.format.specs.Header.{fields_of}
-use Rattle.format.specs.Refusals.{◌then◌}
+use Rattle.format.specs.Refusals.{Checked, Fine, No, ◌then◌}
 use Rattle.format.specs.Answers.{filled}
 use Rattle.format.specs.Opening.{open_of}
 use Rattle.format.specs.Decoding.{check_decode, decoded_of, check_room, decode_of, decode_into}
@@ -16,8 +17,6 @@ use Rattle.format.specs.Boundary.{samples_from, sample_bytes, result_of, host_op
 use Rattle.format.specs.declared.refusals.Refusal.{Refusal}
 use Rattle.format.specs.declared.refusals.Refusal.TheVariants.{OutputTooShort}
 use Rattle.format.specs.declared.refusals.Place.{Place}
-use Rattle.format.specs.declared.refusals.Checked.{Checked}
-use Rattle.format.specs.declared.refusals.Checked.TheVariants.{Fine, No}
 use Rattle.format.specs.declared.units.Frames.{Frames}
 use Rattle.format.specs.declared.answers.Answer.{Answer}
 use Rattle.laws.proofs.Checks.{first_fine, has_room}
@@ -47,8 +46,8 @@ module _ (check : ℕ → Checked) (xs : List ℤ) (fits : (room : ℕ) → chec
   bytes_put b d hb hd p q = by (check (length b / 4)) refl (rw (length_lent b) at p)
     where
       by : (k : Checked) → check (length b / 4) ≡ k → samples_from d ≡ filled k xs (samples_from b) → d ≡ filled k (sample_bytes xs) b
-      by Fine e t = bytes_over xs b d hb hd (fits (length b / 4) e) t q
-      by (No r at) e t = sym (same_bytes b d hb hd (sym t) (sym q))
+      by (Ok ok) e t = bytes_over xs b d hb hd (fits (length b / 4) e) t q
+      by (Err refused) e t = sym (same_bytes b d hb hd (sym t) (sym q))
 
 decoded_room : (s : List ℕ) (room : ℕ) → (check_decode s then check_room s room) ≡ Fine → length (decoded_of s) ≤ room
 unfolding check_room

@@ -4,11 +4,11 @@ use mathlib.Core.Path.{◌≡◌, ap, ◌∙◌}
 use mathlib.Core.List.{List}
 use native.Mathlib.Omega.{arith}
 use lib.ListN.{length, drop}
+use Rattle.format.specs.Refusals.{Fine}
 use Rattle.format.specs.Numbers.{Below}
 use Rattle.format.specs.Peaks.{build_peaks_of, compare_peaks_of, pair_count, pair_number, check_summary, check_peak, pairs_from, read_peak_of, read_peak_into, check_all_peaks, read_peaks_of, read_peaks_into}
 use Rattle.format.specs.Boundary.{samples_from, result_of, host_peaks, host_peak, host_peak_into, host_peaks_all, host_peaks_all_into, host_peaks_check}
 use Rattle.format.specs.declared.refusals.Refusal.TheVariants.{OutputTooShort}
-use Rattle.format.specs.declared.refusals.Checked.TheVariants.{Fine}
 use Rattle.format.specs.declared.answers.Answer.{Answer}
 use Rattle.laws.proofs.Checks.{others_fine, has_room}
 use Rattle.laws.proofs.Summaries.{pairs_long}

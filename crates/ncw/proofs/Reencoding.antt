@@ -4,14 +4,12 @@ use mathlib.Core.Path.{◌≡◌, refl, sym, ap, ◌∙◌}
 use mathlib.Core.List.{List}
 use lib.ListN.{length}
 use Rattle.format.specs.Numbers.{Below}
-use Rattle.format.specs.Refusals.{nowhere, ◌then◌}
+use Rattle.format.specs.Refusals.{Checked, No, nowhere, ◌then◌}
 use Rattle.format.specs.Reencoding.{reencoded_file, check_reencode_into, reencode_of, reencode_into}
 use Rattle.format.specs.Boundary.{samples_from, result_of, check_host_reencode, host_reencode, host_reencode_into, refusal_word, host_reencode_refusal}
 use Rattle.format.specs.declared.refusals.Refusal.{Refusal}
 use Rattle.format.specs.declared.refusals.Refusal.TheVariants.{SampleBytes}
 use Rattle.format.specs.declared.refusals.Place.{Place}
-use Rattle.format.specs.declared.refusals.Checked.{Checked}
-use Rattle.format.specs.declared.refusals.Checked.TheVariants.{No}
 use Rattle.format.specs.declared.settings.PcmSpec.{PcmSpec}
 use Rattle.format.specs.declared.answers.Outcome.TheVariants.{Wrote, Refused}
 use Rattle.format.specs.declared.answers.Answer.{Answer}

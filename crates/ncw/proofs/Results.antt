@@ -1,4 +1,5 @@
 -- The host's number of an outcome: which it is, and that it fits.
+use Rattle.std.specs.Prelude.{Ok, Err}
 use Prim.Native.Nat.{ℕ, ◌+◌, ◌*◌, ◌^◌, ◌<◌}
 use mathlib.Core.Path.{◌≡◌, refl, sym, ap, ◌∙◌}
 use mathlib.Core.List.{List}
@@ -12,7 +13,7 @@ use Rattle.format.specs.Lists.{same}
 use Rattle.format.specs.Numbers.{Below}
 use Rattle.format.specs.Header.{fields_of}
 use Rattle.format.specs.Units.{samples_in}
-use Rattle.format.specs.Refusals.{number, ◌then◌}
+use Rattle.format.specs.Refusals.{Checked, Fine, number, ◌then◌}
 use Rattle.format.specs.Answers.{answered}
 use Rattle.format.specs.Opening.{check_open, header_of, open_of}
 use Rattle.format.specs.Decoding.{check_decode, check_room, decode_of}
@@ -25,8 +26,6 @@ use Rattle.format.specs.declared.units.Frames.{Frames}
 use Rattle.format.specs.declared.units.Samples.{Samples}
 use Rattle.format.specs.declared.refusals.Refusal.{Refusal}
 use Rattle.format.specs.declared.refusals.Refusal.TheVariants.{OutputTooShort}
-use Rattle.format.specs.declared.refusals.Checked.{Checked}
-use Rattle.format.specs.declared.refusals.Checked.TheVariants.{Fine, No}
 use Rattle.format.specs.declared.settings.PcmSpec.{PcmSpec}
 use Rattle.format.specs.declared.settings.StereoMode.{StereoMode}
 use Rattle.format.specs.declared.answers.Header.{Header}
@@ -62,8 +61,8 @@ read_fits o n few e = record { fits = few n e }
 
 -- what is answered counts samples that were read only where it is so on success
 fine_reads_few : (k : Checked) (o : Outcome) (n : Samples) → (k ≡ Fine → o ≡ Read n → 4 * n.0 < 2 ^ 64) → (answered k o).outcome ≡ Read n → 4 * n.0 < 2 ^ 64
-fine_reads_few Fine o n few q = few refl q
-fine_reads_few (No r at) o n few q = let none : true ≡ false = cc in never none
+fine_reads_few (Ok ok) o n few q = few refl q
+fine_reads_few (Err refused) o n few q = let none : true ≡ false = cc in never none
 
 reads_few : (k : Checked) (o : Outcome) (n : Samples) → (o ≡ Read n → 4 * n.0 < 2 ^ 64) → (answered k o).outcome ≡ Read n → 4 * n.0 < 2 ^ 64
 reads_few k o n few = fine_reads_few k o n (λ fine. few)

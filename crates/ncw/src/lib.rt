@@ -14,8 +14,7 @@ ghost use Rattle.format.specs.Promises.{HostBuildsPeaks, HostReadsPeak, HostRead
 ghost use Rattle.format.specs.Promises.{HostDecodeRefuses, HostReencodeRefuses};
 
 use crate::words::refusal_word;
-use format::{Checked, Frames, NOWHERE, Outcome, PcmSpec, Refusal, Samples, StereoMode};
-use lent_samples::Container;
+use format::{Frames, Outcome, PcmSpec, Refusal, Samples, StereoMode};
 
 // The length in bytes (for opening, what decoding would write), 1 for yes, 0 for no, or 2^63 plus the refusal number.
 fn result(outcome: Outcome) -> u64
@@ -23,16 +22,12 @@ fn result(outcome: Outcome) -> u64
     ensures { result ≡ result_of outcome }
 {
     match outcome {
-        Outcome::Opened(h) => {
-            let frames = h.frames;
-            4 * frames.samples(h.channels).0
-        }
+        Outcome::Opened(h) => 4 * h.frames.samples(h.channels).0,
         Outcome::Read(n) => 4 * n.0,
         Outcome::Wrote(n) => n,
         Outcome::Refused(r) => 0x8000_0000_0000_0000 + r.number() as u64,
-        Outcome::Finished => 0,
         Outcome::Matches => 1,
-        Outcome::Differs => 0,
+        Outcome::Finished | Outcome::Differs => 0,
     }
 }
 
@@ -41,17 +36,15 @@ pub fn ncw_open(file: &[u8]) -> u64
     ensures { HostOpens file.now result }
 {
     let answer = opening::open(file);
-    let outcome = answer.outcome;
-    result(outcome)
+    result(answer.outcome)
 }
 
 // Decodes a file into `samples`.
 pub fn ncw_decode(file: &[u8], samples: &mut [u8]) -> u64
     ensures { HostDecodes file.now samples.old result samples.new }
 {
-    let answer = reader::decode_lent(Container::Bytes, file, &mut [], samples);
-    let outcome = answer.outcome;
-    result(outcome)
+    let answer = reader::decode_samples(file, samples);
+    result(answer.outcome)
 }
 
 // Reads `count` frames of a file, from the frame `first` on, into `samples`.
@@ -60,16 +53,8 @@ pub fn ncw_read_frames(file: &[u8], first: u32, count: u32, samples: &mut [u8]) 
         let count : Frames = record { 0 = count } in
         HostReadsFrames file.now first count samples.old result samples.new) }
 {
-    let answer = few_frames::read_frames_lent(
-        Container::Bytes,
-        file,
-        Frames(first),
-        Frames(count),
-        &mut [],
-        samples,
-    );
-    let outcome = answer.outcome;
-    result(outcome)
+    let answer = few_frames::read_frames(file, Frames(first), Frames(count), samples);
+    result(answer.outcome)
 }
 
 // Builds the summary of a file's peaks into `summary`.
@@ -77,26 +62,23 @@ pub fn ncw_peaks(file: &[u8], summary: &mut [u8]) -> u64
     ensures { HostBuildsPeaks file.now summary.old result summary.new }
 {
     let answer = peaks::build_peaks(file, summary);
-    let outcome = answer.outcome;
-    result(outcome)
+    result(answer.outcome)
 }
 
 // Reads the pair of a group and a channel from a summary into `pair`: the smallest, the largest.
 pub fn ncw_peak(summary: &[u8], group: u32, channel: u32, pair: &mut [u8]) -> u64
     ensures { HostReadsPeak summary.now group channel pair.old result pair.new }
 {
-    let answer = summary::read_peak_lent(Container::Bytes, summary, group, channel, &mut [], pair);
-    let outcome = answer.outcome;
-    result(outcome)
+    let answer = summary::read_peak(summary, group, channel, pair);
+    result(answer.outcome)
 }
 
 // Reads all pairs of a summary into `pairs`, groups in order and channels within.
 pub fn ncw_peaks_all(summary: &[u8], pairs: &mut [u8]) -> u64
     ensures { HostReadsPeaks summary.now pairs.old result pairs.new }
 {
-    let answer = summary::read_peaks_lent(Container::Bytes, summary, &mut [], pairs);
-    let outcome = answer.outcome;
-    result(outcome)
+    let answer = summary::read_peaks(summary, pairs);
+    result(answer.outcome)
 }
 
 // Whether the bytes are the summary of a file: 1 yes, 0 no.
@@ -104,8 +86,7 @@ pub fn ncw_peaks_check(summary: &[u8], file: &[u8]) -> u64
     ensures { HostComparesPeaks summary.now file.now result }
 {
     let answer = peaks::compare_peaks(summary, file);
-    let outcome = answer.outcome;
-    result(outcome)
+    result(answer.outcome)
 }
 
 // The modes by number: 0 Auto, 1 Direct, 2 MidSide.
@@ -143,9 +124,8 @@ pub fn ncw_encode(
         bits_per_sample: depth,
         sample_rate: rate,
     };
-    let answer = writer::encode_lent(Container::Bytes, &[], samples, p, mode_of(mode), file);
-    let outcome = answer.outcome;
-    result(outcome)
+    let answer = writer::encode_pcm(samples, p, mode_of(mode), file);
+    result(answer.outcome)
 }
 
 // Re-encodes samples with a template into `file`.
@@ -170,9 +150,8 @@ pub fn ncw_reencode(
         bits_per_sample: depth,
         sample_rate: rate,
     };
-    let answer = template::reencode_lent(Container::Bytes, &[], samples, p, template, file);
-    let outcome = answer.outcome;
-    result(outcome)
+    let answer = template::encode_pcm_with_template(samples, p, template, file);
+    result(answer.outcome)
 }
 
 // What `ncw_decode` refuses in so many bytes of room, and where; 0 where it decodes. Nothing is written.
@@ -197,13 +176,13 @@ pub fn ncw_reencode_refusal(
         HostReencodeRefuses samples.now spec template.now room result) }
 {
     if samples.len() % 4 != 0 {
-        return refusal_word(Checked::No(Refusal::SampleBytes, NOWHERE));
+        return refusal_word(Err(Refusal::SampleBytes.nowhere()));
     }
     let p = PcmSpec {
         channels,
         bits_per_sample: depth,
         sample_rate: rate,
     };
-    let checked = template::check_reencode(Container::Bytes, &[], samples, p, template, room);
+    let checked = template::check_reencode(samples, p, template, room);
     refusal_word(checked)
 }

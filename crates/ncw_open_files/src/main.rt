@@ -9,7 +9,7 @@ use std::{env, io};
 fn print_named(rt: &HostRuntime, path: &str) -> io::Result<()> {
     match File::open(rt, path) {
         Ok(mut file) => ncw_open_print::print_opening(rt, &mut file),
-        Err(e) => rt.eprintln(format_args!("{path}: {e}")),
+        Err(e) => eprintln!(rt; "{path}: {e}"),
     }
 }
 

@@ -4,12 +4,11 @@ use mathlib.Core.Path.{◌≡◌, sym, ap, ap₂, ◌∙◌}
 use mathlib.Core.List.{List}
 use native.Mathlib.Omega.{arith}
 use lib.ListN.{length, take, drop}
+use Rattle.format.specs.Refusals.{Checked, Fine}
 use Rattle.format.specs.Lists.{from}
 use Rattle.format.specs.Header.{fields_of, groups_of, entry, group_bytes}
 use Rattle.format.specs.Opening.{check_fields, check_offsets, check_table, check_open}
 use Rattle.format.specs.Decoding.{check_group}
-use Rattle.format.specs.declared.refusals.Checked.{Checked}
-use Rattle.format.specs.declared.refusals.Checked.TheVariants.{Fine}
 use Rattle.format.specs.declared.settings.SampleFormat.{SampleFormat}
 use Rattle.format.specs.declared.answers.Fields.{Fields}
 use Rattle.laws.proofs.Opened.{some_channels, depth_least, depth_most, data_past, data_within, end_within, entry_rises, opened_fields, opened_offsets, opened_table}
@@ -32,9 +31,6 @@ module _ (s : List ℕ) (h : Fields) (opens : check_open s ≡ Fine) (reads : h 
 
   pub depth_32 : h.depth ≤ 32
   depth_32 = depth_most h fields
-
-  pub entry_there : (k : ℕ) → k ≤ groups_of h.frames → h.table + 4 * k + 4 ≤ length s
-  entry_there k l = omega (arith, data_past h (length s) offsets, data_within h (length s) offsets)
 
   module _ (groups g a e : ℕ) (all : groups ≡ groups_of h.frames) (below : g < groups) (starts : a ≡ h.start + entry s h g) (ends : e ≡ h.start + entry s h (g + 1)) where
     l : g < groups_of h.frames

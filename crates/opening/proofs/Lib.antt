@@ -1,4 +1,3 @@
--- What the proofs share: the first block, opening's ways out, and where the groups of a file that opens lie.
-pub mod FirstBlock
+-- What the proofs share: what opening's checks tell, and where the groups of a file that opens lie.
 pub mod Ways
 pub mod Groups

@@ -2,65 +2,47 @@
 #![tactic(auto)]
 
 ghost use Rattle.std.specs.Prelude.{◌≡◌, ◌+◌, ◌≤◌, length};
+ghost use Rattle.format.specs.Refusals.{Fine};
 ghost use Rattle.format.specs.Header.{fields_of, groups_of, entry};
 ghost use Rattle.format.specs.Opening.{check_first, format_of, check_open, header_of};
 ghost use Rattle.format.specs.Promises.{Opens};
-ghost use Rattle.format.specs.declared.refusals.Checked.TheVariants.{Fine};
 
 use block::BlockHeader;
-use format::{Answer, Checked, Depth, Fields, Header, NOWHERE, Outcome, Refusal, SampleFormat};
+use format::{Answer, Depth, Fields, Header, Outcome, Refusal, RefusedAt, SampleFormat, refuse};
 
 // The refusal of the first block, where there is a group. 3: block signature.
-fn check_first(s: &[u8], h: Fields) -> Checked
+#[tactic(auto, unfolding(format::specs::Opening::check_first, format::specs::Refusals::refuse))]
+fn check_first(s: &[u8], h: Fields) -> Result<(), RefusedAt>
     requires { (groups_of h.frames ≡ 0 → ⊥) → h.start + 16 ≤ length s.now }
     ensures { result ≡ check_first s.now h }
 {
-    let frames = h.frames;
-    if frames.groups() == 0 {
-        return Checked::Fine;
-    }
-    let at = h.start as usize;
-    if block::is_block(&s[at..]) {} else {
-        return Checked::No(Refusal::BlockSignature, NOWHERE);
-    }
-    Checked::Fine
+    refuse(
+        h.frames.groups() != 0 && !block::is_block(&s[h.start as usize..]),
+        Refusal::BlockSignature,
+    )
 }
 
 // Every refusal of opening, in document 01's order.
-pub fn check_open(s: &[u8]) -> Checked
+#[tactic(auto, using(crate::proofs::Ways::openings), unfolding(format::specs::Opening::check_open))]
+pub fn check_open(s: &[u8]) -> Result<(), RefusedAt>
     ensures { result ≡ check_open s.now }
 {
-    if s.len() < Depth::HEADER_SIZE {
-        return Checked::No(Refusal::TooShort, NOWHERE);
-    }
-    if header::is_signature(s) {} else {
-        return Checked::No(Refusal::FileSignature, NOWHERE);
-    }
+    refuse(s.len() < Depth::HEADER_SIZE, Refusal::TooShort)?;
+    refuse(!header::is_signature(s), Refusal::FileSignature)?;
     let h = header::read_fields(s);
-    if let Checked::No(r, place) = header::check_fields(h) {
-        return Checked::No(r, place);
-    }
-    if let Checked::No(r, place) = header::check_offsets(h, s.len()) {
-        return Checked::No(r, place);
-    }
-    if let Checked::No(r, place) = header::check_table(s, h) {
-        return Checked::No(r, place);
-    }
+    header::check_fields(h)?;
+    header::check_offsets(h, s.len())?;
+    header::check_table(s, h)?;
     check_first(s, h)
 }
 
 // The format of an opened file, which its first block's flags give; without groups PCM.
+#[tactic(auto, using(crate::proofs::Ways::firsts), unfolding(format::specs::Opening::format_of))]
 pub fn format_of(s: &[u8], h: Fields) -> SampleFormat
     requires { (check_open s.now ≡ Fine) × (h ≡ fields_of s.now) }
     ensures { result ≡ format_of s.now h }
 {
-    let frames = h.frames;
-    if frames.groups() == 0 {
-        return SampleFormat::Pcm;
-    }
-    let at = h.start as usize;
-    let b = BlockHeader::read(&s[at..]);
-    if b.is_float() {
+    if h.frames.groups() != 0 && BlockHeader::read(&s[h.start as usize..]).is_float() {
         SampleFormat::Float
     } else {
         SampleFormat::Pcm
@@ -68,6 +50,7 @@ pub fn format_of(s: &[u8], h: Fields) -> SampleFormat
 }
 
 // Where in an opened file group k begins, and where group k - 1 ends.
+#[tactic(auto, using(crate::proofs::Ways::table_there))]
 pub fn offset_of(file: &[u8], h: Fields, k: u32) -> usize
     requires { (check_open file.now ≡ Fine) × (h ≡ fields_of file.now) × (k ≤ groups_of h.frames) }
     ensures { result ≡ h.start + entry file.now h k }
@@ -76,31 +59,32 @@ pub fn offset_of(file: &[u8], h: Fields, k: u32) -> usize
 }
 
 // What opening finds in a file that it does not refuse.
+#[tactic(auto, using(laws::proofs::Opened::opened_long), unfolding(format::specs::Opening::header_of))]
 fn header_of(s: &[u8]) -> Header
     requires { check_open s.now ≡ Fine }
     ensures { result ≡ header_of s.now }
 {
     let h = header::read_fields(s);
-    let frames = h.frames;
     Header {
         channels: h.channels,
         depth: Depth::of(h.depth),
         rate: h.rate,
-        frames,
+        frames: h.frames,
         table: h.table,
         start: h.start,
         size: h.size,
-        groups: frames.groups(),
+        groups: h.frames.groups(),
         format: format_of(s, h),
     }
 }
 
 // Opens a file: the header's numbers, the group count and the format, or by what it is refused.
+#[tactic(auto, using(laws::proofs::Chain::settled), unfolding(format::specs::Opening::open_of))]
 pub fn open(file: &[u8]) -> Answer
     ensures { Opens file.now result }
 {
-    if let Checked::No(r, place) = check_open(file) {
-        return Answer::refused(r, place);
+    if let Err(refused) = check_open(file) {
+        return Answer::refused(refused);
     }
     Answer::of(Outcome::Opened(header_of(file)))
 }

@@ -1,5 +1,4 @@
--- numbers by their digits, and codes of narrower widths; a code put after others; the codes of a run; what a refusal
--- leaves
+-- numbers by their digits, and codes of narrower widths; a code put after others; the codes of a run; what is packed
 pub mod Numbers
 pub mod Steps
 pub mod Run

@@ -99,3 +99,5 @@ module _ (b : ℕ) (vs : List ℤ) where
   room s c k l u e h d =
       let most : k + 1 ≤ 512 = omega arith in
       record { low = l; high = u; whole = e; fits = omega (arith, d.place, mul-le-mul_left b most, mul-add b k 1) }
+
+pub ruleset codes = (value_holds, code_below, room, done_all)

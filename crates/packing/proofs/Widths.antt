@@ -1,41 +1,31 @@
 -- The bits of all folded values in one number: a width holds all values where it holds that number, so one test tells
 -- what 512 would. And the first value that it does not hold, value by value.
+use Rattle.std.specs.Prelude.{Err}
 use Prim.Native.Nat.{ℕ, suc, ◌+◌, ◌-◌, ◌^◌, ◌<◌, ◌≤◌}
 use mathlib.Core.Path.{◌≡◌, refl, sym, ap, ◌∙◌}
 use mathlib.Core.Bool.{Bool, true, false, ◌&&◌, cond, and-true, and_assoc}
 use mathlib.Core.List.{List}
 use native.Mathlib.Omega.{arith}
 use lib.Dec.{ltb}
-use lib.IntN.{ℤ, pos, negsuc}
+use lib.IntN.{ℤ, pos}
 use lib.ListN.{length, get_or, drop, drop_of_length-le}
-use lib.Pow.{pow_pos}
 use lib.Bits.{bit_or, or_lt, or_add_and, and_le_l, and_le_r}
-use lib.Signed.{mag, lt_z}
+use lib.Signed.{mag}
 use mir.Syntax.{w32}
 use mir.Val.{SFits, to_z, of_z}
 use mir.ValLaws.{to_z-of_z}
 use borrow.Author.Tests.{ltb-true, ltb-false, lt-ltb, le-ltb}
 use Rattle.format.specs.Lists.{every, first_not}
 use Rattle.format.specs.Numbers.{holds}
-use Rattle.format.specs.Refusals.{nowhere, refuse}
+use Rattle.format.specs.Refusals.{Fine, nowhere, refuse}
 use Rattle.format.specs.Fit.{misfit, check_fit}
+use Rattle.format.specs.declared.refusals.RefusedAt.{RefusedAt}
 use Rattle.format.specs.declared.refusals.Refusal.TheVariants.{WidthTooSmall}
-use Rattle.format.specs.declared.refusals.Checked.TheVariants.{Fine, No}
-use Rattle.laws.proofs.Tests.{never}
 use Rattle.laws.proofs.Parts.{left_now}
 use Rattle.laws.proofs.Widths.{StandsFor}
 use Rattle.laws.proofs.Misfits.{fit_fine, first_now}
 
--- `mag` by the bits
-pub mag_neg : (x : ℤ) → SFits w32 x → lt_z (to_z w32 (of_z w32 x)) (pos 0) ≡ true → 4294967295 - of_z w32 x ≡ mag x
-mag_neg (pos n) f t = let u = ltb-true n 0 (rw (to_z-of_z w32 (pos n) f) at t) in absurd (omega arith)
-mag_neg (negsuc n) f t = omega (arith, f.sfits)
-
-pub mag_pos : (x : ℤ) → SFits w32 x → lt_z (to_z w32 (of_z w32 x)) (pos 0) ≡ false → of_z w32 x ≡ mag x
-mag_pos (pos n) f t = refl
-mag_pos (negsuc n) f t = never (rw (to_z-of_z w32 (negsuc n) f) at t)
-
--- of a value that is read
+-- `mag` of a value that is read
 pub mag_read : (x : ℤ) {n : ℕ} → SFits w32 x → n ≡ mag (to_z w32 (of_z w32 x)) → n ≡ mag x
 mag_read x f e = e ∙ ap mag (to_z-of_z w32 x f)
 
@@ -58,9 +48,6 @@ or_below k m f = by (ltb m (2 ^ k)) (ltb f (2 ^ k)) refl refl
 module _ (vs : List ℤ) where
   abbrev pub SoFar : ℕ → ℕ → Type 0
   SoFar m i = (b : ℕ) → (holds b (pos m) && every (holds b) (drop i vs)) ≡ every (holds b) vs
-
-  pub so_far_none : SoFar 0 0
-  so_far_none b = ap (λ (t : Bool). t && every (holds b) vs) (lt-ltb 0 (2 ^ (b - 1)) (pow_pos (b - 1)))
 
   pub so_far_more : (m i f : ℕ) → i < length vs → f ≡ mag (get_or vs i (pos 0)) → SoFar m i → SoFar (bit_or m f) (i + 1)
   unfolding every
@@ -108,6 +95,8 @@ module _ (vs : List ℤ) (m b p : ℕ) (all : StandsFor m vs) (power : p ≡ 2 ^
   pub fits_all : m < p → Fine ≡ check_fit b vs
   fits_all h = sym (fit_fine b vs (holds_all h))
 
-  pub fits_not : p ≤ m → (k : ℕ) → k ≡ misfit b vs → No (WidthTooSmall k) nowhere ≡ check_fit b vs
+  pub fits_not : p ≤ m → (k : ℕ) (e : RefusedAt) → k ≡ misfit b vs → (e.why ≡ WidthTooSmall k) × (e.place ≡ nowhere) → Err e ≡ check_fit b vs
   unfolding check_fit refuse
-  fits_not h k e = rw (e, holds_some h)
+  fits_not h k e is says = rw (says.0, says.1, is, holds_some h)
+
+pub ruleset finds = (here_next, here_found, here_none)

@@ -13,7 +13,7 @@ ghost use Rattle.bits.specs.Place.{WholeRun, Room};
 ghost use Rattle.packing.specs.Place.{Open, CodePut, origin, end};
 
 use bits::pow2;
-use format::{Checked, Depth, NOWHERE, Refusal};
+use format::{Refusal, RefusedAt};
 use le_bytes::put_u32_le;
 
 // The twin of the reading cursor: bits that wait to be written, how many, and where the next four bytes go.
@@ -57,6 +57,7 @@ impl PutCursor {
 }
 
 // The code of `bits` bits of a value that they hold.
+#[tactic(auto, using(crate::proofs::Run::code_word))]
 fn code_of(value: i32, bits: u32) -> u64
     requires { (1 ≤ bits) × (bits ≤ 32) × (holds bits value ≡ true) }
     ensures { result ≡ code_of bits value }
@@ -79,8 +80,8 @@ fn folded_bits(values: &[i32]) -> u32
     ensures { (result < 2 ^ 31) × ((b : ℕ) → every (holds b) values.now ≡ holds b (pos result)) }
 {
     let mut m: u32 = 0;
-    for i in 0..Depth::SAMPLES_PER_BLOCK {
-        m |= folded(values[i]);
+    for x in values {
+        m |= folded(*x);
     }
     m
 }
@@ -91,11 +92,12 @@ fn folded_bits(values: &[i32]) -> u32
 pub fn width(values: [i32; 512]) -> u32
     ensures { result ≡ least_width values }
 {
-    let b = 33 - u32::leading_zeros(folded_bits(&values));
-    if b < 2 { 2 } else { b }
+    let b = 33 - folded_bits(&values).leading_zeros();
+    b.max(2)
 }
 
 // The differences that rebuild the values: each is the next value less this one, and 0 stands as the last.
+#[tactic(auto, using(crate::proofs::Sweeps::stored_all))]
 pub fn deltas(values: [i32; 512]) -> [i32; 512]
     ensures { result ≡ differences values }
 {
@@ -107,13 +109,14 @@ pub fn deltas(values: [i32; 512]) -> [i32; 512]
 }
 
 // The place of the first value that so many bits do not hold; 512 where they hold all.
+#[tactic(auto, using(crate::proofs::Widths::finds))]
 fn first_misfit(values: &[i32], bits: u32) -> u16
     requires { (length values.now ≡ 512) × (1 ≤ bits) × (bits ≤ 32) }
     ensures { result ≡ misfit bits values.now }
 {
     let p = pow2(bits - 1);
-    for i in 0..Depth::SAMPLES_PER_BLOCK {
-        if p <= folded(values[i]) as u64 {
+    for (i, x) in values.iter().enumerate() {
+        if p <= folded(*x) as u64 {
             return i as u16;
         }
     }
@@ -122,37 +125,37 @@ fn first_misfit(values: &[i32], bits: u32) -> u16
 
 // The refusal of values for a width. 36: a value or difference does not fit it; the place of the first such is looked
 // for only then.
-pub fn check_fit(values: [i32; 512], bits: u32) -> Checked
+pub fn check_fit(values: [i32; 512], bits: u32) -> Result<(), RefusedAt>
     requires { (1 ≤ bits) × (bits ≤ 32) }
     ensures { result ≡ check_fit bits values }
 {
     if (folded_bits(&values) as u64) < pow2(bits - 1) {
-        return Checked::Fine;
+        return Ok(());
     }
-    Checked::No(Refusal::WidthTooSmall(first_misfit(&values, bits)), NOWHERE)
+    Err(Refusal::WidthTooSmall(first_misfit(&values, bits)).nowhere())
 }
 
 // Fills the run with the codes of all values, which the width holds.
+#[tactic(auto, using(crate::proofs::Run::codes))]
 fn put_all(values: [i32; 512], bits: u32, run: &mut [u8])
     requires { WholeRun run.old bits × (every (holds bits) values ≡ true) }
     ensures { run.new ≡ packing bits values }
 {
     let mut cursor = PutCursor::start();
-    for i in 0..Depth::SAMPLES_PER_BLOCK {
-        cursor = cursor.put(run, code_of(values[i], bits), bits);
+    for x in &values {
+        cursor = cursor.put(run, code_of(*x, bits), bits);
     }
 }
 
 // Packs 512 values into a run of 64 * bits bytes. 36, with its place: a value or difference does not fit the width, and
 // the run stays as it was.
-pub fn pack(values: [i32; 512], bits: u32, run: &mut [u8]) -> Checked
+#[tactic(auto, using(crate::proofs::Fits::packs))]
+pub fn pack(values: [i32; 512], bits: u32, run: &mut [u8]) -> Result<(), RefusedAt>
     requires { WholeRun run.old bits }
     ensures { let fit = check_fit bits values in
         (result ≡ fit) × (run.new ≡ filled fit (packing bits values) run.old) }
 {
-    if let Checked::No(r, place) = check_fit(values, bits) {
-        return Checked::No(r, place);
-    }
+    check_fit(values, bits)?;
     put_all(values, bits, run);
-    Checked::Fine
+    Ok(())
 }

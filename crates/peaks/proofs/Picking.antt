@@ -1,65 +1,33 @@
--- The smaller and the larger of two numbers that the machine compares, and that of a run, one sample after another.
-use Prim.Native.Nat.{ℕ, ◌+◌, ◌^◌, ◌≤◌, ◌<◌}
+-- The smallest and the largest of a run, as they are found from its first sample on.
+use Prim.Native.Nat.{◌<◌}
 use mathlib.Core.Path.{◌≡◌, refl, sym, ap, ap₂, ◌∙◌}
-use mathlib.Core.Bool.{Bool, true, false}
-use mathlib.Core.List.{List, [], ◌∷◌, ◌++◌}
+use mathlib.Core.List.{List, [], ◌∷◌}
 use native.Mathlib.Omega.{arith}
-use native.Mathlib.Numerals.{add-one}
 use lib.IntN.{ℤ, pos}
-use lib.ListN.{length, get_or, take, length-take}
-use lib.Seq.{take-suc}
-use lib.Signed.{le_z, mag}
-use mir.Syntax.{w32}
-use mir.Val.{to_z, of_z, SFits}
-use mir.ValLaws.{to_z-of_z}
+use lib.ListN.{length, get_or, drop}
+use borrow.Author.Rules.{part_to_end}
+use Rattle.std.specs.Prelude.{fold}
+use Rattle.std.specs.Int.{int_min, int_max}
+use Rattle.std.proofs.lemmas.Int.{ints, to_z-of_z}
+use Rattle.std.proofs.lemmas.List.{take_all}
+use Rattle.std.proofs.lemmas.List.Sums.{fold_more}
 use Rattle.format.specs.Peaks.{lesser, greater, picked, extreme, peak_of}
 
--- ---- of two
-module _ (x y : ℤ) (f : SFits w32 x) (g : SFits w32 y) where
-  tested : {t : Bool} → le_z (to_z w32 (of_z w32 x)) (to_z w32 (of_z w32 y)) ≡ t → le_z x y ≡ t
-  tested e = sym (ap₂ le_z (to_z-of_z w32 x f) (to_z-of_z w32 y g)) ∙ e
+lesser_min : (x y : ℤ) → lesser x y ≡ int_min x y
+lesser_min x y = grind (arith, ints)
 
-  pub lesser_first : le_z (to_z w32 (of_z w32 x)) (to_z w32 (of_z w32 y)) ≡ true → to_z w32 (of_z w32 x) ≡ lesser x y
-  lesser_first e = to_z-of_z w32 x f ∙ rw (tested e)
+greater_max : (x y : ℤ) → greater x y ≡ int_max x y
+greater_max x y = grind (arith, ints)
 
-  pub lesser_second : le_z (to_z w32 (of_z w32 x)) (to_z w32 (of_z w32 y)) ≡ false → to_z w32 (of_z w32 y) ≡ lesser x y
-  lesser_second e = to_z-of_z w32 y g ∙ rw (tested e)
+picked_fold : (pick best : ℤ → ℤ → ℤ) → ((x y : ℤ) → pick x y ≡ best x y) → (x : ℤ) (ys : List ℤ) → picked pick x ys ≡ fold best x ys
+unfolding picked
+picked_fold pick best same x [] = refl
+picked_fold pick best same x (y ∷ ys) = picked_fold pick best same (pick x y) ys ∙ ap (λ (z : ℤ). fold best z ys) (same x y)
 
-  pub greater_second : le_z (to_z w32 (of_z w32 x)) (to_z w32 (of_z w32 y)) ≡ true → to_z w32 (of_z w32 y) ≡ greater x y
-  greater_second e = to_z-of_z w32 y g ∙ rw (tested e)
+pub peak_is : (xs : List ℤ) → 0 < length xs
+    → record { smallest = fold int_min (get_or xs 0 (pos 0)) (drop 1 xs); largest = fold int_max (get_or xs 0 (pos 0)) (drop 1 xs) } ≡ peak_of xs
+unfolding extreme
+peak_is [] some = absurd (omega arith)
+peak_is (x ∷ xs) some = sym (ap₂ (λ (s l : ℤ). record { smallest = s; largest = l }) (picked_fold lesser int_min lesser_min x xs) (picked_fold greater int_max greater_max x xs))
 
-  pub greater_first : le_z (to_z w32 (of_z w32 x)) (to_z w32 (of_z w32 y)) ≡ false → to_z w32 (of_z w32 x) ≡ greater x y
-  greater_first e = to_z-of_z w32 x f ∙ rw (tested e)
-
--- ---- of a run, by either
-module _ (pick : ℤ → ℤ → ℤ) where
-  picked_more : (x : ℤ) (ys : List ℤ) (z : ℤ) → picked pick x (ys ++ (z ∷ [])) ≡ pick (picked pick x ys) z
-  unfolding picked
-  picked_more x [] z = refl
-  picked_more x (y ∷ ys) z = picked_more (pick x y) ys z
-
-  extreme_more : (xs : List ℤ) (z : ℤ) → 0 < length xs → extreme pick (xs ++ (z ∷ [])) ≡ pick (extreme pick xs) z
-  unfolding extreme
-  extreme_more [] z h = absurd (omega arith)
-  extreme_more (x ∷ xs) z h = picked_more x xs z
-
-  pub extreme_one : (xs : List ℤ) → SFits w32 (get_or xs 0 (pos 0)) → to_z w32 (of_z w32 (get_or xs 0 (pos 0))) ≡ extreme pick (take 1 xs)
-  unfolding extreme picked
-  extreme_one [] f = refl
-  extreme_one (x ∷ xs) f = to_z-of_z w32 x f
-
-  -- x is that of the first k, and r the one that is kept of x and the next
-  pub extreme_turn : (xs : List ℤ) (k x : ℕ) (r : ℤ) → 1 ≤ k → k < length xs → mag (get_or xs k (pos 0)) < 2 ^ 31 → mag r < 2 ^ 31
-      → r ≡ pick (to_z w32 x) (to_z w32 (of_z w32 (get_or xs k (pos 0)))) → to_z w32 x ≡ extreme pick (take k xs) → to_z w32 (of_z w32 r) ≡ extreme pick (take (k + 1) xs)
-  extreme_turn xs k x r some l f ok e h =
-      let long : 0 < length (take k xs) = simp length-take (omega arith) in
-      to_z-of_z w32 r (record { sfits = ok }) ∙ e ∙ ap₂ pick h (to_z-of_z w32 (get_or xs k (pos 0)) (record { sfits = f }))
-      ∙ sym (extreme_more (take k xs) (get_or xs k (pos 0)) long)
-      ∙ rw (add-one, take-suc xs k (pos 0) l)
-
--- of all n of them
-pub peak_all : (xs : List ℤ) (n k x y : ℕ) → k ≤ n → n ≤ k → to_z w32 x ≡ extreme lesser (take k xs) → to_z w32 y ≡ extreme greater (take k xs)
-    → record { smallest = to_z w32 x; largest = to_z w32 y } ≡ peak_of (take n xs)
-peak_all xs n k x y l m p q =
-    let e : k ≡ n = omega arith in
-    ap₂ (λ (s g : ℤ). record { smallest = s; largest = g }) p q ∙ ap (λ (i : ℕ). peak_of (take i xs)) e
+pub ruleset picks = (to_z-of_z, fold_more, take_all, part_to_end, peak_is)

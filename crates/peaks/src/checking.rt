@@ -2,18 +2,14 @@
 ghost use Rattle.std.specs.Prelude.{◌≡◌};
 ghost use Rattle.format.specs.Peaks.{check_peaks};
 
-use format::{Checked, NOWHERE, Refusal, SampleFormat};
+use format::{Refusal, RefusedAt, SampleFormat, refuse};
 
 // Decoding's checks, then 66: the file is float.
-pub fn check_peaks(file: &[u8]) -> Checked
+#[tactic(auto, using(crate::proofs::Ways::checks), unfolding(format::specs::Peaks::check_peaks))]
+pub fn check_peaks(file: &[u8]) -> Result<(), RefusedAt>
     ensures { result ≡ check_peaks file.now }
 {
-    if let Checked::No(r, place) = reader::check_file(file) {
-        return Checked::No(r, place);
-    }
-    let h = header::read_fields(file);
-    match opening::format_of(file, h) {
-        SampleFormat::Float => Checked::No(Refusal::FloatFile, NOWHERE),
-        SampleFormat::Pcm => Checked::Fine,
-    }
+    reader::check_file(file)?;
+    let format = opening::format_of(file, header::read_fields(file));
+    refuse(matches!(format, SampleFormat::Float), Refusal::FloatFile)
 }

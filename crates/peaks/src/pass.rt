@@ -1,10 +1,10 @@
 // A pass over what a summary holds, number by number: how long it is, written, or compared with bytes that are held.
-ghost use Rattle.std.specs.Prelude.{◌≡◌};
+ghost use Rattle.std.specs.Prelude.{◌<◌, length};
 ghost use Rattle.format.specs.SevenBits.{seven};
-ghost use Rattle.format.specs.Peaks.{pair_bytes};
-ghost use Rattle.peaks.specs.Passes.{place_of, Fits, Passes};
+ghost use Rattle.format.specs.Peaks.{peak_of, pair_bytes};
+ghost use Rattle.peaks.specs.Passes.{Fits, Passes};
 
-use format::Peak;
+use crate::extremes::peak_of;
 use seven_bits::{fold, length_of, put, sevens_of, stands};
 
 #[derive(Clone, Copy)]
@@ -14,54 +14,39 @@ pub enum Pass {
     Compare,
 }
 
-// The place behind what it went over; or it stopped: what is held there is another number, or ends.
-#[derive(Clone, Copy)]
-pub enum Passed {
-    On(usize),
-    Stopped,
-}
-
-impl Passed {
-    // That place; 0 where it stopped, as only a comparison does.
-    pub fn place(self) -> usize
-        ensures { result ≡ place_of self }
-    {
-        match self {
-            Passed::On(at) => at,
-            Passed::Stopped => 0,
-        }
-    }
-}
-
-// One number, at the place `at`.
-pub fn pass_number(pass: Pass, at: usize, n: u32, out: &mut [u8], held: &[u8]) -> Passed
+// One number, at the place `at`: the place behind it, unless it stops there. Only a comparison stops, where what is
+// held is another number, or ends.
+#[tactic(auto, using(seven_bits::proofs::Laws::sevens))]
+pub fn pass_number(pass: Pass, at: usize, n: u32, out: &mut [u8], held: &[u8]) -> Option<usize>
     requires { Fits pass at (seven n) out.old }
     ensures { Passes pass at (seven n) held.now out.old result out.new }
 {
     match pass {
-        Pass::Measure => Passed::On(at + length_of(n)),
+        Pass::Measure => Some(at + length_of(n)),
         Pass::Write => {
             let w = sevens_of(n);
             put(out, at, w);
-            Passed::On(at + w.len)
+            Some(at + w.len)
         }
         Pass::Compare => {
             let w = sevens_of(n);
-            if stands(held, at, w) {} else {
-                return Passed::Stopped;
+            if stands(held, at, w) {
+                Some(at + w.len)
+            } else {
+                None
             }
-            Passed::On(at + w.len)
         }
     }
 }
 
-// A pair.
-pub fn pass_peak(pass: Pass, at: usize, peak: Peak, out: &mut [u8], held: &[u8]) -> Passed
-    requires { Fits pass at (pair_bytes peak) out.old }
-    ensures { Passes pass at (pair_bytes peak) held.now out.old result out.new }
+// The pair of some samples, of which there is at least one.
+#[tactic(auto, using(crate::proofs::Pairs::pairs))]
+pub fn pass_peak(pass: Pass, at: usize, run: &[i32], out: &mut [u8], held: &[u8]) -> Option<usize>
+    requires { (0 < length run.now) × Fits pass at (pair_bytes (peak_of run.now)) out.old }
+    ensures { let b = pair_bytes (peak_of run.now) in
+        Passes pass at b held.now out.old result out.new }
 {
-    let Passed::On(next) = pass_number(pass, at, fold(peak.smallest), out, held) else {
-        return Passed::Stopped;
-    };
+    let peak = peak_of(run);
+    let next = pass_number(pass, at, fold(peak.smallest), out, held)?;
     pass_number(pass, next, fold(peak.largest), out, held)
 }

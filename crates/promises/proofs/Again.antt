@@ -1,5 +1,6 @@
 -- The new file serves as template exactly as the old one did: all that is read of a template stays in it, but for the
 -- values and bases that the samples determine, and these any new samples replace.
+use Rattle.std.specs.Prelude.{Ok, Err}
 use Prim.Native.Nat.{ℕ, ◌+◌, ◌≤◌, ◌<◌}
 use mathlib.Core.Path.{◌≡◌, refl, sym, ap, ap₂, ◌∙◌}
 use mathlib.Core.Bool.{Bool, not}
@@ -13,15 +14,13 @@ use Rattle.laws.proofs.TemplateFiles as F
 use Rattle.promises.proofs.Refile as R
 use Rattle.format.specs.Lists.{joined}
 use Rattle.format.specs.Header.{fields_of, groups_of, entry, group_bytes}
-use Rattle.format.specs.Refusals.{refuse, ◌then◌, in_order}
+use Rattle.format.specs.Refusals.{Checked, Fine, refuse, ◌then◌, in_order}
 use Rattle.format.specs.Places.{in_group}
 use Rattle.format.specs.Answers.{answered, filled}
 use Rattle.format.specs.Encoding.{group_in, check_samples, frames_of}
 use Rattle.format.specs.Reencoding.{check_reencode_group, reencoded_group, check_same, check_bounds, check_rising, check_template, check_reencode, check_reencode_into, reencoded_file, reencode_of, reencode_into}
 use Rattle.format.specs.Boundary.{samples_from, check_bytes, result_of, check_host_reencode, host_reencode, host_reencode_into, refusal_word, host_reencode_refusal}
 use Rattle.format.specs.declared.refusals.Refusal.TheVariants.{TooShort, FileSignature, TemplateOffsets, OutputTooShort}
-use Rattle.format.specs.declared.refusals.Checked.{Checked}
-use Rattle.format.specs.declared.refusals.Checked.TheVariants.{Fine, No}
 use Rattle.format.specs.declared.settings.PcmSpec.{PcmSpec}
 use Rattle.format.specs.declared.answers.Fields.{Fields}
 use Rattle.format.specs.declared.answers.Outcome.TheVariants.{Wrote}
@@ -135,8 +134,8 @@ module _ (p : PcmSpec) (s : List ℤ) (t : List ℕ) (ok : check_reencode p s t 
     host_says_same = by (check_bytes b)
       where
         by : (c : Checked) → result_of (answered (c then check_reencode_into q z t' (length room)) (Wrote (length t'))).outcome ≡ result_of (answered (c then check_reencode_into q z t (length room)) (Wrote (length t))).outcome
-        by Fine = ap (λ (a : Answer). result_of a.outcome) (says_same q z (length room))
-        by (No r at) = refl
+        by (Ok ok) = ap (λ (a : Answer). result_of a.outcome) (says_same q z (length room))
+        by (Err refused) = refl
 
     -- and what it would refuse, and where
     pub host_word_same : (much : ℕ) → host_reencode_refusal b q t' much ≡ host_reencode_refusal b q t much
@@ -148,5 +147,5 @@ module _ (p : PcmSpec) (s : List ℤ) (t : List ℕ) (ok : check_reencode p s t 
     host_leaves_same = by (check_bytes b)
       where
         by : (c : Checked) → filled (c then check_reencode_into q z t' (length room)) (reencoded_file z t') room ≡ filled (c then check_reencode_into q z t (length room)) (reencoded_file z t) room
-        by Fine = leaves_same q z room
-        by (No r at) = refl
+        by (Ok ok) = leaves_same q z room
+        by (Err refused) = refl

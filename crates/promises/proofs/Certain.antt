@@ -9,7 +9,7 @@ use lib.ListN.{length}
 use lib.IntN.{ℤ}
 use Rattle.format.specs.Lists.{same}
 use Rattle.format.specs.Numbers.{Below}
-use Rattle.format.specs.Refusals.{◌then◌}
+use Rattle.format.specs.Refusals.{Checked, Fine, No, ◌then◌}
 use Rattle.format.specs.Answers.{refused_by, answered, filled}
 use Rattle.format.specs.Opening.{check_open, header_of, open_of}
 use Rattle.format.specs.Decoding.{check_decode, decoded_of, decoded_count, check_room, decode_of, decode_into}
@@ -26,16 +26,13 @@ use Rattle.format.specs.declared.units.Samples.{Samples}
 use Rattle.format.specs.declared.refusals.Refusal.{Refusal}
 use Rattle.format.specs.declared.refusals.Place.{Place}
 use Rattle.format.specs.declared.refusals.Refusal.TheVariants.{OutputTooShort}
-use Rattle.format.specs.declared.refusals.Checked.{Checked}
-use Rattle.format.specs.declared.refusals.Checked.TheVariants.{Fine, No}
 use Rattle.format.specs.declared.settings.PcmSpec.{PcmSpec}
 use Rattle.format.specs.declared.settings.StereoMode.{StereoMode}
 use Rattle.format.specs.declared.answers.Outcome.{Outcome}
 use Rattle.format.specs.declared.answers.Outcome.TheVariants.{Opened, Read, Finished, Wrote}
 use Rattle.format.specs.declared.answers.Answer.{Answer}
-use Rattle.lent_samples.specs.Lent.{lent_of, rest_of}
-use Rattle.lent_samples.specs.declared.Container.{Container}
-use Rattle.lent_samples.proofs.Outcome.{one_outcome}
+use Rattle.lent_samples.specs.Lent.{bytes_behind}
+use Rattle.lent_samples.proofs.Outcome.{same_bytes}
 use Rattle.laws.proofs.Checks.{others_fine, has_room}
 use Rattle.promises.proofs.Outcomes.{Exactly, is_refused, exactly_no, no_keeps, refused_keeps, host_refused}
 use Rattle.promises.proofs.WalkLaws.{step_moves}
@@ -89,23 +86,22 @@ refused_exactly =
 abbrev pub One : {R A : Type 0} → (R → A → Type 0) → Type 0
 One {R} {A} P = (r r' : R) (after after' : A) → P r after → P r' after' → (r ≡ r') × (after ≡ after')
 
--- what is promised of samples in either container: P of the samples, and that all else stays
-abbrev pub InEither : (Answer → List ℤ → Type 0) → Container → List ℤ → List ℕ → Answer → List ℤ → List ℕ → Type 0
-InEither P which words bytes r words' bytes' = P r (lent_of which words' bytes') × (rest_of which words' bytes' ≡ rest_of which words bytes)
+-- what a function over `Stored` promises where samples are lent as bytes: P of the samples, and that the bytes behind
+-- the last whole one stay
+abbrev pub InBytes : (List ℤ → Answer → List ℤ → Type 0) → List ℕ → Answer → List ℕ → Type 0
+InBytes P bytes r after = P (samples_from bytes) r (samples_from after) × (bytes_behind after ≡ bytes_behind bytes)
 
-abbrev pub OneInEither : (Answer → List ℤ → Type 0) → Container → List ℤ → List ℕ → Type 0
-OneInEither P which words bytes =
-    (r r' : Answer) (w w' : List ℤ) (b b' : List ℕ) → Below 256 b → Below 256 b'
-    → InEither P which words bytes r w b → InEither P which words bytes r' w' b' → (r ≡ r') × (w ≡ w') × (b ≡ b')
+abbrev pub OneInBytes : (List ℤ → Answer → List ℤ → Type 0) → List ℕ → Type 0
+OneInBytes P bytes =
+    (r r' : Answer) (after after' : List ℕ) → Below 256 after → Below 256 after' → InBytes P bytes r after → InBytes P bytes r' after' → (r ≡ r') × (after ≡ after')
 
 equations : {R A : Type 0} (x : R) (y : A) → One (λ (r : R) (after : A). (r ≡ x) × (after ≡ y))
 equations x y r r' after after' p q = (p.0 ∙ sym q.0, p.1 ∙ sym q.1)
 
-in_either : (P : Answer → List ℤ → Type 0) → One P → (which : Container) (words : List ℤ) (bytes : List ℕ) → OneInEither P which words bytes
-in_either P one which words bytes r r' w w' b b' hb hb' p q =
-    let e = one r r' (lent_of which w b) (lent_of which w' b') p.0 q.0 in
-    let m = one_outcome which w w' b b' hb hb' e.1 (p.1 ∙ sym q.1) in
-    (e.0, m.0, m.1)
+in_bytes : (P : List ℤ → Answer → List ℤ → Type 0) → ((lent : List ℤ) → One (P lent)) → (bytes : List ℕ) → OneInBytes P bytes
+in_bytes P one bytes r r' after after' h h' p q =
+    let e = one (samples_from bytes) r r' (samples_from after) (samples_from after') p.0 q.0 in
+    (e.0, same_bytes after after' h h' e.1 (p.1 ∙ sym q.1))
 
 pub record OneOutcome : Type 1 where
   -- a function that lends nothing promises r ≡ x: open, check_open, ncw_open, the functions of format
@@ -135,14 +131,13 @@ pub record OneOutcome : Type 1 where
   -- the words of what decoding and re-encoding would refuse, and where
   pub host_decode_refuses : (s : List ℕ) (room r r' : ℕ) → HostDecodeRefuses s room r → HostDecodeRefuses s room r' → r ≡ r'
   pub host_reencode_refuses : (b : List ℕ) (p : PcmSpec) (t : List ℕ) (room r r' : ℕ) → HostReencodeRefuses b p t room r → HostReencodeRefuses b p t room r' → r ≡ r'
-  -- samples lent in either container: decode_lent, decode_group_lent, read_frames_lent, and the pairs of a summary
-  pub decodes_lent : (s : List ℕ) (which : Container) (words : List ℤ) (bytes : List ℕ) → OneInEither (Decodes s (lent_of which words bytes)) which words bytes
-  pub steps_lent : (s : List ℕ) (g : ℕ) (which : Container) (words : List ℤ) (bytes : List ℕ) → OneInEither (Steps s g (lent_of which words bytes)) which words bytes
-  pub reads_frames_lent : (s : List ℕ) (first count : Frames) (which : Container) (words : List ℤ) (bytes : List ℕ)
-      → OneInEither (ReadsFrames s first count (lent_of which words bytes)) which words bytes
-  pub reads_peak_lent : (s : List ℕ) (g c : ℕ) (which : Container) (words : List ℤ) (bytes : List ℕ)
-      → OneInEither (ReadsPeak s g c (lent_of which words bytes)) which words bytes
-  pub reads_peaks_lent : (s : List ℕ) (which : Container) (words : List ℤ) (bytes : List ℕ) → OneInEither (ReadsPeaks s (lent_of which words bytes)) which words bytes
+  -- samples that are lent as bytes: decode_lent, decode_group_lent, read_frames_lent, and the pairs of a summary.
+  -- Behind numbers nothing lies, so where numbers are lent, the lines above speak of these functions too
+  pub decodes_lent : (s bytes : List ℕ) → OneInBytes (Decodes s) bytes
+  pub steps_lent : (s : List ℕ) (g : ℕ) (bytes : List ℕ) → OneInBytes (Steps s g) bytes
+  pub reads_frames_lent : (s : List ℕ) (first count : Frames) (bytes : List ℕ) → OneInBytes (ReadsFrames s first count) bytes
+  pub reads_peak_lent : (s : List ℕ) (g c : ℕ) (bytes : List ℕ) → OneInBytes (ReadsPeak s g c) bytes
+  pub reads_peaks_lent : (s bytes : List ℕ) → OneInBytes (ReadsPeaks s) bytes
 
 pub one_outcome_each : OneOutcome
 one_outcome_each =
@@ -170,11 +165,11 @@ one_outcome_each =
       host_reencodes = λ b p t lent. equations _ _;
       host_decode_refuses = λ s room r r' p q. p ∙ sym q;
       host_reencode_refuses = λ b p t room r r' e q. e ∙ sym q;
-      decodes_lent = λ s which words bytes. in_either _ (equations _ _) which words bytes;
-      steps_lent = λ s g which words bytes. in_either _ (equations _ _) which words bytes;
-      reads_frames_lent = λ s first count which words bytes. in_either _ (equations _ _) which words bytes;
-      reads_peak_lent = λ s g c which words bytes. in_either _ (equations _ _) which words bytes;
-      reads_peaks_lent = λ s which words bytes. in_either _ (equations _ _) which words bytes;
+      decodes_lent = λ s. in_bytes (Decodes s) (λ lent. equations _ _);
+      steps_lent = λ s g. in_bytes (Steps s g) (λ lent. equations _ _);
+      reads_frames_lent = λ s first count. in_bytes (ReadsFrames s first count) (λ lent. equations _ _);
+      reads_peak_lent = λ s g c. in_bytes (ReadsPeak s g c) (λ lent. equations _ _);
+      reads_peaks_lent = λ s. in_bytes (ReadsPeaks s) (λ lent. equations _ _);
     }
 
 -- ---- 8. REFUSALS CHANGE NOTHING
@@ -183,9 +178,8 @@ one_outcome_each =
 abbrev pub Keeps : {A : Type 0} → (Answer → List A → Type 0) → List A → Type 0
 Keeps {A} P lent = (x : Refusal) (at : Place) (after : List A) → P (refused_by x at) after → after ≡ lent
 
-abbrev pub KeepsInEither : (Answer → List ℤ → Type 0) → Container → List ℤ → List ℕ → Type 0
-KeepsInEither P which words bytes =
-    (x : Refusal) (at : Place) (w : List ℤ) (b : List ℕ) → Below 256 bytes → Below 256 b → InEither P which words bytes (refused_by x at) w b → (w ≡ words) × (b ≡ bytes)
+abbrev pub KeepsInBytes : (List ℤ → Answer → List ℤ → Type 0) → List ℕ → Type 0
+KeepsInBytes P bytes = (x : Refusal) (at : Place) (after : List ℕ) → Below 256 bytes → Below 256 after → InBytes P bytes (refused_by x at) after → after ≡ bytes
 
 -- a host is told of a refusal by a number from 2 ^ 63 on; no slice is as long as that
 abbrev pub HostKeeps : (ℕ → List ℕ → Type 0) → List ℕ → Type 0
@@ -209,13 +203,12 @@ pub record RefusalsKeep : Type 0 where
   pub host_reads_peaks : (s lent : List ℕ) → HostKeeps (HostReadsPeaks s lent) lent
   pub host_encodes : (b : List ℕ) (p : PcmSpec) (mode : ℕ) (lent : List ℕ) → HostKeeps (HostEncodes b p mode lent) lent
   pub host_reencodes : (b : List ℕ) (p : PcmSpec) (t lent : List ℕ) → HostKeeps (HostReencodes b p t lent) lent
-  pub decodes_lent : (s : List ℕ) (which : Container) (words : List ℤ) (bytes : List ℕ) → KeepsInEither (Decodes s (lent_of which words bytes)) which words bytes
-  pub steps_lent : (s : List ℕ) (g : ℕ) (which : Container) (words : List ℤ) (bytes : List ℕ) → KeepsInEither (Steps s g (lent_of which words bytes)) which words bytes
-  pub reads_frames_lent : (s : List ℕ) (first count : Frames) (which : Container) (words : List ℤ) (bytes : List ℕ)
-      → KeepsInEither (ReadsFrames s first count (lent_of which words bytes)) which words bytes
-  pub reads_peak_lent : (s : List ℕ) (g c : ℕ) (which : Container) (words : List ℤ) (bytes : List ℕ)
-      → KeepsInEither (ReadsPeak s g c (lent_of which words bytes)) which words bytes
-  pub reads_peaks_lent : (s : List ℕ) (which : Container) (words : List ℤ) (bytes : List ℕ) → KeepsInEither (ReadsPeaks s (lent_of which words bytes)) which words bytes
+  -- samples that are lent as bytes
+  pub decodes_lent : (s bytes : List ℕ) → KeepsInBytes (Decodes s) bytes
+  pub steps_lent : (s : List ℕ) (g : ℕ) (bytes : List ℕ) → KeepsInBytes (Steps s g) bytes
+  pub reads_frames_lent : (s : List ℕ) (first count : Frames) (bytes : List ℕ) → KeepsInBytes (ReadsFrames s first count) bytes
+  pub reads_peak_lent : (s : List ℕ) (g c : ℕ) (bytes : List ℕ) → KeepsInBytes (ReadsPeak s g c) bytes
+  pub reads_peaks_lent : (s bytes : List ℕ) → KeepsInBytes (ReadsPeaks s) bytes
 
 decode_keeps : (s : List ℕ) (lent : List ℤ) → Keeps (Decodes s lent) lent
 unfolding decode_of decode_into
@@ -321,8 +314,8 @@ unfolding host_reencode host_reencode_into
 host_reencode_keeps b p t lent =
     host_keeps (check_host_reencode b p t (length lent)) (Wrote (length t)) (reencoded_file (samples_from b) t) lent (reencode_short b p t (length lent))
 
-keeps_in_either : (P : Answer → List ℤ → Type 0) (which : Container) (words : List ℤ) (bytes : List ℕ) → Keeps P (lent_of which words bytes) → KeepsInEither P which words bytes
-keeps_in_either P which words bytes keeps x at w b hb hb' p = one_outcome which w words b bytes hb' hb (keeps x at (lent_of which w b) p.0) p.1
+keeps_in_bytes : (P : List ℤ → Answer → List ℤ → Type 0) → ((lent : List ℤ) → Keeps (P lent) lent) → (bytes : List ℕ) → KeepsInBytes P bytes
+keeps_in_bytes P keeps bytes x at after h h' p = same_bytes after bytes h' h (keeps (samples_from bytes) x at (samples_from after) p.0) p.1
 
 pub refusals_keep : RefusalsKeep
 refusals_keep =
@@ -343,10 +336,9 @@ refusals_keep =
       host_reads_peaks = host_peaks_keep;
       host_encodes = host_encode_keeps;
       host_reencodes = host_reencode_keeps;
-      decodes_lent = λ s which words bytes. keeps_in_either (Decodes s (lent_of which words bytes)) which words bytes (decode_keeps s (lent_of which words bytes));
-      steps_lent = λ s g which words bytes. keeps_in_either (Steps s g (lent_of which words bytes)) which words bytes (step_keeps s g (lent_of which words bytes));
-      reads_frames_lent = λ s first count which words bytes.
-          keeps_in_either (ReadsFrames s first count (lent_of which words bytes)) which words bytes (frames_keep s first count (lent_of which words bytes));
-      reads_peak_lent = λ s g c which words bytes. keeps_in_either (ReadsPeak s g c (lent_of which words bytes)) which words bytes (peak_keeps s g c (lent_of which words bytes));
-      reads_peaks_lent = λ s which words bytes. keeps_in_either (ReadsPeaks s (lent_of which words bytes)) which words bytes (peaks_keep s (lent_of which words bytes));
+      decodes_lent = λ s. keeps_in_bytes (Decodes s) (decode_keeps s);
+      steps_lent = λ s g. keeps_in_bytes (Steps s g) (step_keeps s g);
+      reads_frames_lent = λ s first count. keeps_in_bytes (ReadsFrames s first count) (frames_keep s first count);
+      reads_peak_lent = λ s g c. keeps_in_bytes (ReadsPeak s g c) (peak_keeps s g c);
+      reads_peaks_lent = λ s. keeps_in_bytes (ReadsPeaks s) (peaks_keep s);
     }

@@ -6,6 +6,7 @@ use mathlib.Core.List.{List, [], ◌++◌}
 use native.Mathlib.Omega.{arith}
 use lib.ListN.{length, take, drop}
 use lib.IntN.{ℤ}
+use Rattle.format.specs.Refusals.{Checked}
 use Rattle.format.specs.Lists.{joined, from, over}
 use Rattle.format.specs.Numbers.{Below}
 use Rattle.format.specs.Header.{fields_of, groups_of, group_bytes}
@@ -20,7 +21,6 @@ use Rattle.format.specs.Reencoding.{reencoded_group}
 use Rattle.format.specs.Peaks.{peak_at, summary_of, pair_count, pair_number, pair_samples, from_pair, pair_of}
 use Rattle.format.specs.Promises.{Opens, Decodes, Steps, ReadsFrames, BuildsPeaks, ReadsPeak, ReadsPeaks, Encodes, Reencodes}
 use Rattle.format.specs.Places.{at_group}
-use Rattle.format.specs.declared.refusals.Checked.{Checked}
 use Rattle.format.specs.declared.units.Frames.{Frames}
 use Rattle.format.specs.declared.settings.PcmSpec.{PcmSpec}
 use Rattle.format.specs.declared.settings.StereoMode.{StereoMode}

@@ -11,7 +11,7 @@ use Rattle.format.specs.Lists.{over}
 use Rattle.format.specs.Numbers.{Below}
 use Rattle.format.specs.Header.{fields_of}
 use Rattle.format.specs.Units.{active}
-use Rattle.format.specs.Refusals.{◌then◌}
+use Rattle.format.specs.Refusals.{Checked, Fine, ◌then◌}
 use Rattle.format.specs.Answers.{answered_by, refused_by, answered, read, wrote}
 use Rattle.format.specs.Opening.{header_of, open_of}
 use Rattle.format.specs.Decoding.{check_decode, decoded_of}
@@ -19,8 +19,6 @@ use Rattle.format.specs.Encoding.{encoded_file, check_encoder, check_samples, ch
 use Rattle.format.specs.Reencoding.{reencoded_file, check_reencode_into, reencode_of}
 use Rattle.format.specs.Promises.{Opens, Decodes, Encodes, Reencodes}
 use Rattle.format.specs.declared.refusals.Place.{Place}
-use Rattle.format.specs.declared.refusals.Checked.{Checked}
-use Rattle.format.specs.declared.refusals.Checked.TheVariants.{Fine}
 use Rattle.format.specs.declared.refusals.Refusal.TheVariants.{ParityDiffers, WidthTooSmall}
 use Rattle.format.specs.declared.settings.PcmSpec.{PcmSpec}
 use Rattle.format.specs.declared.settings.StereoMode.{StereoMode}

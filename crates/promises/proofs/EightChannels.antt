@@ -1,10 +1,10 @@
 -- Document 02, L4: eight channels, 8 and 32 bits. What each writer takes; when mid/side is refused without stereo; that
 -- no sample of 32 bits is outside depth 32; that Auto is direct but for two channels; that mid and side of equal parity
 -- are exact; and how much room is always enough.
-use Prim.Native.Nat.{ℕ, ◌+◌, ◌/◌, ◌^◌, ◌<◌, ◌≤◌, ◌%◌}
+use Prim.Native.Nat.{ℕ, ◌+◌, ◌^◌, ◌<◌, ◌≤◌, ◌%◌}
 use mathlib.Core.Path.{◌≡◌, refl, sym, ap, ap₂, ◌∙◌}
 use mathlib.Core.Logic.{◌≢◌}
-use mathlib.Core.Bool.{true, not}
+use mathlib.Core.Bool.{true}
 use mathlib.Core.List.{List, [], ◌∷◌}
 use native.Mathlib.Omega.{arith}
 use lib.ListN.{length}
@@ -13,22 +13,18 @@ use lib.Signed.{mag}
 use borrow.Author.Tests.{ltb-true, lt-ltb}
 use Rattle.format.specs.Lists.{every}
 use Rattle.format.specs.Numbers.{Below, holds}
-use Rattle.format.specs.Refusals.{refuse, ◌then◌, nowhere}
+use Rattle.format.specs.Refusals.{Checked, Fine, refuse, ◌then◌, nowhere}
 use Rattle.format.specs.Answers.{answered, filled}
 use Rattle.format.specs.Encoding.{mid, side, equal_parity, encoded_file, check_encoder, check_samples, check_encode_into, encode_of, encode_into}
 use Rattle.format.specs.Reencoding.{check_reencode_into, reencode_of}
 use Rattle.format.specs.Boundary.{samples_from, is_mode, mode_of, result_of, check_mode, check_bytes, check_host_encode, host_encode, host_encode_into, check_host_reencode, host_reencode}
 use Rattle.format.specs.Promises.{Encodes, Reencodes, HostEncodes, HostReencodes}
 use Rattle.format.specs.declared.refusals.Refusal.TheVariants.{WriterSpec, ValueOutside, OutputTooShort, NotStereo}
-use Rattle.format.specs.declared.refusals.Checked.{Checked}
-use Rattle.format.specs.declared.refusals.Checked.TheVariants.{Fine}
 use Rattle.format.specs.declared.settings.PcmSpec.{PcmSpec}
 use Rattle.format.specs.declared.settings.StereoMode.{StereoMode}
 use Rattle.format.specs.declared.settings.StereoMode.TheVariants.{Auto, Direct, MidSide}
 use Rattle.format.specs.declared.answers.Answer.{Answer}
 use Rattle.format.specs.declared.answers.Outcome.TheVariants.{Wrote, Refused}
-use Rattle.laws.proofs.Tests.{never}
-use Rattle.laws.proofs.Checks.{pass}
 use Rattle.laws.proofs.Halves.{sum_is, difference_is, mid_range, side_range}
 use Rattle.promises.proofs.Outcomes.{Exactly, exactly_number}
 use Rattle.laws.proofs.SampleChecks.{Taken}

@@ -1,5 +1,6 @@
 -- Laws of the encoder's settings: which numbers its checks never say, what Auto makes of any channel count but two, and
 -- how long a file can be.
+use Rattle.std.specs.Prelude.{Ok, Err}
 use Prim.Native.Nat.{ℕ, ◌+◌, ◌*◌, ◌/◌, ◌^◌, ◌<◌, ◌≤◌, min, ◌%◌}
 use mathlib.Core.Path.{◌≡◌, refl, sym, ap, ap₂, ◌∙◌, subst, fun_ext}
 use mathlib.Core.Logic.{◌≢◌}
@@ -15,17 +16,15 @@ use Rattle.format.specs.Lists.{joined, every}
 use Rattle.format.specs.Numbers.{Below, num_at, value, holds}
 use Rattle.format.specs.Header.{fields_of, groups_of, group_bytes}
 use Rattle.format.specs.Units.{within, depth_word, depth_of}
-use Rattle.format.specs.Refusals.{number, refuse, ◌then◌, in_order, nowhere}
+use Rattle.format.specs.Refusals.{Checked, Fine, No, number, refuse, ◌then◌, in_order, nowhere}
 use Rattle.format.specs.Places.{located, at_group, at_channel, in_group}
 use Rattle.format.specs.Answers.{answered}
-use Rattle.format.specs.Encoding.{differences, least_width, encoded_block, blocks, mid, side, mid_side, padded_channels, frames_of, takes_mid, is_mid_side, encoded_group, group_in, encoded_group_at, assembled, encoded_file, check_spec, check_encoder, check_samples, check_stereo, check_data_size, check_size, check_encode, check_encode_into}
+use Rattle.format.specs.Encoding.{differences, least_width, encoded_block, blocks, mid_side, padded_channels, frames_of, takes_mid, is_mid_side, encoded_group, group_in, encoded_group_at, assembled, encoded_file, check_spec, check_encoder, check_samples, check_stereo, check_data_size, check_size, check_encode, check_encode_into}
 use Rattle.format.specs.Reencoding.{check_template, check_reencoder, check_reencode, check_reencode_group, check_reencode_into}
 use Rattle.format.specs.Boundary.{samples_from, is_mode, mode_of, result_of, check_mode, check_bytes, check_host_encode, check_host_reencode}
 use Rattle.format.specs.declared.refusals.Refusal.{Refusal}
 use Rattle.format.specs.declared.refusals.Refusal.TheVariants.{WriterSpec, ValueOutside, OutputTooShort, NotStereo}
 use Rattle.format.specs.declared.refusals.Place.{Place}
-use Rattle.format.specs.declared.refusals.Checked.{Checked}
-use Rattle.format.specs.declared.refusals.Checked.TheVariants.{Fine, No}
 use Rattle.format.specs.declared.units.Depth.TheVariants.{ThirtyTwo}
 use Rattle.format.specs.declared.settings.PcmSpec.{PcmSpec}
 use Rattle.format.specs.declared.settings.StereoMode.{StereoMode}
@@ -89,8 +88,8 @@ module _ (most : ℕ) (depths : List ℕ) (p : PcmSpec) (others : Checked) (unsa
   not_taken none = by (check_spec most depths p) refl
     where
       by : (c : Checked) → check_spec most depths p ≡ c → (at : Place) × ((check_spec most depths p then others) ≡ No WriterSpec at)
-      by Fine e = absurd (none (fine_taken most depths p e))
-      by (No r at) e = (at, ap (λ (c : Checked). c then others) (e ∙ ap (λ (x : Refusal). No x at) (says_30 r at e)))
+      by (Ok ok) e = absurd (none (fine_taken most depths p e))
+      by (Err refused) e = (refused.place, ap (λ (c : Checked). c then others) (e ∙ ap (λ (x : Refusal). No x refused.place) (says_30 refused.why refused.place e)))
 
 -- of encoding
 module _ (p : PcmSpec) (mode : StereoMode) (s : List ℤ) (room : ℕ) where

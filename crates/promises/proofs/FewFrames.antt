@@ -10,7 +10,7 @@ use lib.ListN.{length, take}
 use lib.IntN.{ℤ}
 use Rattle.format.specs.Lists.{joined, from, over}
 use Rattle.format.specs.Header.{fields_of, groups_of}
-use Rattle.format.specs.Refusals.{nowhere}
+use Rattle.format.specs.Refusals.{Checked, Fine, No, nowhere}
 use Rattle.format.specs.Answers.{refused_by, answered, filled, read}
 use Rattle.format.specs.Opening.{check_open}
 use Rattle.format.specs.Decoding.{decoded_count, decode_of, decode_into}
@@ -21,8 +21,6 @@ use Rattle.format.specs.Promises.{Decodes, ReadsFrames, HostDecodes, HostReadsFr
 use Rattle.format.specs.declared.refusals.Refusal.{Refusal}
 use Rattle.format.specs.declared.refusals.Place.{Place}
 use Rattle.format.specs.declared.refusals.Refusal.TheVariants.{OutputTooShort, RangePastEnd}
-use Rattle.format.specs.declared.refusals.Checked.{Checked}
-use Rattle.format.specs.declared.refusals.Checked.TheVariants.{Fine, No}
 use Rattle.format.specs.declared.units.Frames.{Frames}
 use Rattle.format.specs.declared.answers.Outcome.TheVariants.{Read}
 use Rattle.format.specs.declared.answers.Answer.{Answer}

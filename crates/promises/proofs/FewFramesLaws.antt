@@ -1,5 +1,6 @@
 -- A few frames: what an answer tells of the checks and of the lent samples, and back; which groups decide; that they
 -- are a cut of the whole decode; and that two ranges which meet are checked as one.
+use Rattle.std.specs.Prelude.{Ok, Err}
 use Prim.Native.Nat.{ℕ, ◌+◌, ◌-◌, ◌*◌, ◌/◌, ◌^◌, ◌≤◌, ◌<◌}
 use mathlib.Core.Path.{◌≡◌, refl, sym, ap, ap₂, ◌∙◌}
 use mathlib.Core.List.{List, ◌++◌}
@@ -13,7 +14,7 @@ use lib.Dec.{ltb, eqb}
 use borrow.Author.Tests.{lt-ltb, le-ltb, ltb-true}
 use Rattle.format.specs.Lists.{every, from, over}
 use Rattle.format.specs.Header.{fields_of, groups_of, group_bytes}
-use Rattle.format.specs.Refusals.{number, nowhere, refuse, ◌then◌, in_order}
+use Rattle.format.specs.Refusals.{Checked, Fine, No, number, nowhere, refuse, ◌then◌, in_order}
 use Rattle.format.specs.Places.{at_group}
 use Rattle.format.specs.Answers.{refused_by, answered, filled, read}
 use Rattle.format.specs.Opening.{format_of, check_open}
@@ -25,8 +26,6 @@ use Rattle.format.specs.Promises.{Decodes, ReadsFrames, HostDecodes, HostReadsFr
 use Rattle.format.specs.declared.refusals.Refusal.{Refusal}
 use Rattle.format.specs.declared.refusals.Place.{Place}
 use Rattle.format.specs.declared.refusals.Refusal.TheVariants.{OutputTooShort, RangePastEnd}
-use Rattle.format.specs.declared.refusals.Checked.{Checked}
-use Rattle.format.specs.declared.refusals.Checked.TheVariants.{Fine, No}
 use Rattle.format.specs.declared.units.Frames.{Frames}
 use Rattle.format.specs.declared.units.Samples.{Samples}
 use Rattle.format.specs.declared.answers.Outcome.TheVariants.{Read}
@@ -175,8 +174,8 @@ host_cut_left s out whole n first count d short within =
 -- ---- two ranges that meet: the file is opened for either, and the group at the seam is checked in either
 after_both : (o x a b : Checked) → x ≡ (a then b) → (o then x) ≡ ((o then a) then (o then b))
 unfolding ◌then◌
-after_both Fine x a b e = e
-after_both (No r at) x a b e = refl
+after_both (Ok ok) x a b e = e
+after_both (Err refused) x a b e = refl
 
 module _ (s : List ℕ) (first count more : Frames) (within : (range_end first (range_end count more)).0 ≤ (fields_of s).frames.0) where
   abbrev next : Frames
@@ -222,8 +221,8 @@ module _ (s : List ℕ) (first count more : Frames) (within : (range_end first (
 -- what two checks refuse, the first of them that refuses says
 pub first_of_two : (a b : Checked) (x : Refusal) (at : Place) → Exactly ((a then b) ≡ No x at) ((a ≡ No x at) ⊎ ((a ≡ Fine) × (b ≡ No x at)))
 unfolding ◌then◌
-first_of_two Fine b x at = (λ e. inr (refl, e), ⊎_elim (λ (e : Fine ≡ No x at). let z : true ≡ false = cc in never z) (λ q. q.1))
-first_of_two (No r l) b x at = (inl, ⊎_elim (λ (e : No r l ≡ No x at). e) (λ q. let e = q.0 in let z : true ≡ false = cc in never z))
+first_of_two (Ok ok) b x at = (λ e. inr (refl, e), ⊎_elim (λ (e : Fine ≡ No x at). let z : true ≡ false = cc in never z) (λ q. q.1))
+first_of_two (Err refused) b x at = (inl, ⊎_elim (λ (e : No refused.why refused.place ≡ No x at). e) (λ q. let e = q.0 in let z : true ≡ false = cc in never z))
 
 -- ---- by which number they refuse
 module _ (s : List ℕ) (first count : Frames) where

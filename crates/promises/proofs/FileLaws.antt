@@ -8,13 +8,13 @@ use native.Mathlib.Omega.{arith}
 use lib.ListN.{length, drop}
 use lib.Seq.{drop_at}
 use borrow.Author.Tests.{le-ltb, eq-eqb}
+use Rattle.format.specs.Refusals.{Fine}
 use Rattle.format.specs.Lists.{joined, from, same}
 use Rattle.format.specs.Numbers.{num, digits, le, num_at}
 use Rattle.format.specs.Header.{signature, is_signature, fields_of, groups_of, entry, group_bytes}
 use Rattle.format.specs.Opening.{check_offsets}
 use Rattle.format.specs.Encoding.{header_bytes, table_of, assembled}
 use Rattle.format.specs.declared.units.Frames.{Frames}
-use Rattle.format.specs.declared.refusals.Checked.TheVariants.{Fine}
 use Rattle.format.specs.declared.settings.PcmSpec.{PcmSpec}
 use Rattle.format.specs.declared.answers.Fields.{Fields}
 use Rattle.laws.proofs.Parts.{part_at, length_mono}

@@ -4,6 +4,7 @@ use mathlib.Core.Path.{◌≡◌, sym, ap, ◌∙◌}
 use mathlib.Core.List.{List}
 use lib.ListN.{length, take}
 use lib.IntN.{ℤ}
+use Rattle.format.specs.Refusals.{Checked, Fine}
 use Rattle.format.specs.Lists.{over}
 use Rattle.format.specs.Numbers.{Below}
 use Rattle.format.specs.Answers.{filled, wrote}
@@ -11,8 +12,6 @@ use Rattle.format.specs.Decoding.{decoded_of}
 use Rattle.format.specs.Encoding.{encoded_file, check_encode, check_encode_into, encode_of, encode_into}
 use Rattle.format.specs.Reencoding.{check_reencode, check_reencode_into, reencoded_file, reencode_of, reencode_into}
 use Rattle.format.specs.Promises.{Encodes, Reencodes}
-use Rattle.format.specs.declared.refusals.Checked.{Checked}
-use Rattle.format.specs.declared.refusals.Checked.TheVariants.{Fine}
 use Rattle.format.specs.declared.settings.PcmSpec.{PcmSpec}
 use Rattle.format.specs.declared.settings.StereoMode.{StereoMode}
 use Rattle.laws.proofs.Checks.{first_fine}

@@ -9,13 +9,13 @@ use lib.ListN.{length, get_or}
 use lib.IntN.{ℤ}
 use lib.Dec.{eqb}
 use borrow.Author.Tests.{eqb-true}
+use Rattle.format.specs.Refusals.{Fine}
 use Rattle.format.specs.Lists.{joined}
 use Rattle.format.specs.Blocks.{is_block, mid_bit, float_bit}
 use Rattle.format.specs.MidSide.{left_right}
 use Rattle.format.specs.Units.{active}
 use Rattle.format.specs.Decoding.{check_group, coded, channels_of, woven, group_samples}
 use Rattle.format.specs.Encoding.{encoded_block, mid_side, parity, unwoven, padded_channels, blocks, takes_mid, encoded_group}
-use Rattle.format.specs.declared.refusals.Checked.TheVariants.{Fine}
 use Rattle.format.specs.declared.settings.SampleFormat.TheVariants.{Pcm}
 use Rattle.format.specs.declared.settings.PcmSpec.{PcmSpec}
 use Rattle.format.specs.declared.settings.StereoMode.{StereoMode}

@@ -10,12 +10,12 @@ use lib.Seq.{drop_at, drop-drop, drop-length}
 use lib.IntN.{ℤ}
 use lib.Dec.{ltb, eqb, eqb-suc-zero}
 use borrow.Author.Tests.{le-ltb, eq-eqb}
+use Rattle.format.specs.Refusals.{Fine}
 use Rattle.format.specs.Lists.{tab, joined}
 use Rattle.format.specs.Numbers.{num_at}
 use Rattle.format.specs.Blocks.{is_block, mid_bit, float_bit, size_of, samples_of, from_block}
 use Rattle.format.specs.Decoding.{is_float, check_block, check_group, coded}
 use Rattle.format.specs.Places.{at_channel}
-use Rattle.format.specs.declared.refusals.Checked.TheVariants.{Fine}
 use Rattle.format.specs.declared.settings.SampleFormat.TheVariants.{Pcm}
 use Rattle.format.specs.declared.answers.Fields.{Fields}
 use Rattle.laws.proofs.Tests.{and_no}

@@ -8,15 +8,13 @@ use lib.ListN.{length, take}
 use borrow.Author.Tests.{eqb-true, not-false}
 use Rattle.format.specs.Lists.{over}
 use Rattle.format.specs.Numbers.{Below}
-use Rattle.format.specs.Refusals.{◌then◌}
+use Rattle.format.specs.Refusals.{Checked, Fine, ◌then◌}
 use Rattle.format.specs.Answers.{answered, filled, wrote}
 use Rattle.format.specs.Decoding.{check_decode, decoded_of, decoded_count, check_room, decode_of}
 use Rattle.format.specs.Encoding.{encoded_file, check_encode_into, encode_of, encode_into}
 use Rattle.format.specs.Reencoding.{check_reencode_into, reencoded_file, reencode_of, reencode_into}
 use Rattle.format.specs.Boundary.{samples_from, sample_bytes, mode_of, check_mode, check_bytes, result_of, host_decode, host_decode_into, check_host_encode, host_encode, host_encode_into, check_host_reencode, host_reencode, host_reencode_into}
 use Rattle.format.specs.Promises.{Encodes, Reencodes, HostDecodes, HostEncodes, HostReencodes}
-use Rattle.format.specs.declared.refusals.Checked.{Checked}
-use Rattle.format.specs.declared.refusals.Checked.TheVariants.{Fine}
 use Rattle.format.specs.declared.settings.PcmSpec.{PcmSpec}
 use Rattle.format.specs.declared.answers.Outcome.TheVariants.{Read, Wrote}
 use Rattle.laws.proofs.Checks.{passed, first_fine, others_fine}

@@ -1,6 +1,7 @@
 -- Document 02, L6, at the host boundary: the word that tells what a call would refuse, and where. It is 0 exactly where
 -- the call of that room returns a length; otherwise its low byte is the number, and its other parts are the place that
 -- 36 tells, the channel and the group.
+use Rattle.std.specs.Prelude.{Ok, Err}
 use Prim.Native.Nat.{ℕ, ◌+◌, ◌/◌, ◌%◌, ◌^◌, ◌≤◌, ◌<◌}
 use mathlib.Core.Path.{◌≡◌, refl, sym, ap, ◌∙◌}
 use mathlib.Core.Bool.{Bool, true, not, ◌&&◌}
@@ -13,7 +14,7 @@ use borrow.Author.Tests.{ltb-true, not-true}
 use Rattle.format.specs.Lists.{every}
 use Rattle.format.specs.Numbers.{Below}
 use Rattle.format.specs.Header.{fields_of, groups_of}
-use Rattle.format.specs.Refusals.{number, told, ◌then◌}
+use Rattle.format.specs.Refusals.{Checked, Fine, No, number, told, ◌then◌}
 use Rattle.format.specs.Places.{outside, inside, IsNamed}
 use Rattle.format.specs.declared.places.Named.{Named}
 use Rattle.format.specs.declared.places.Named.TheVariants.{NoGroup, TheGroup, TheBlock}
@@ -33,8 +34,6 @@ use Rattle.format.specs.declared.refusals.Refusal.TheVariants.{DataTooLarge, Unk
 use Rattle.format.specs.declared.refusals.Refusal.TheVariants.{ShortGroup, TemplateBits, TemplateFlags, TemplateBytesLeft, OutputTooShort, RangePastEnd}
 use Rattle.format.specs.declared.refusals.Refusal.TheVariants.{NumberCut, NumberLong, NumberTooLarge, BytesBehind, PeaksCrossed, FloatFile, PairPastEnd}
 use Rattle.format.specs.declared.refusals.Place.{Place}
-use Rattle.format.specs.declared.refusals.Checked.{Checked}
-use Rattle.format.specs.declared.refusals.Checked.TheVariants.{Fine, No}
 use Rattle.format.specs.declared.settings.PcmSpec.{PcmSpec}
 use Rattle.format.specs.declared.answers.Outcome.{Outcome}
 use Rattle.format.specs.declared.answers.Outcome.TheVariants.{Read, Wrote}
@@ -115,10 +114,10 @@ number_byte x = ltb-true (number x) 256 (and_right (ltb 0 (number x)) _ (known x
 
 -- ---- from the checks c, and the outcome o of success
 word_tells : (c : Checked) (o : Outcome) → (c ≡ Fine → result_of o < 2 ^ 63) → (r word : ℕ) → r ≡ result_of (answered c o).outcome → word ≡ refusal_word c → WordTells r word
-word_tells Fine o few r word e w = let l = few refl in record { nothing = (λ q. omega arith, λ q. w); the_number = λ q. absurd (omega arith) }
-word_tells (No x at) o few r word e w =
-    let a = number_some x in
-    let b = number_byte x in
+word_tells (Ok ok) o few r word e w = let l = few refl in record { nothing = (λ q. omega arith, λ q. w); the_number = λ q. absurd (omega arith) }
+word_tells (Err refused) o few r word e w =
+    let a = number_some refused.why in
+    let b = number_byte refused.why in
     record { nothing = (λ q. absurd (omega arith), λ q. absurd (omega arith)); the_number = λ q. omega arith }
 
 parts_of : (x : Refusal) (at : Place) (word : ℕ) → word ≡ refusal_word (No x at) → misfit_told (told x) < 65536 → at.channel < 65536 → Parts word x at

@@ -10,7 +10,7 @@ use lib.ListN.{length, take}
 use borrow.Author.Tests.{eq-eqb}
 use Rattle.format.specs.Lists.{over}
 use Rattle.format.specs.Numbers.{Below}
-use Rattle.format.specs.Refusals.{◌then◌}
+use Rattle.format.specs.Refusals.{Checked, Fine, ◌then◌}
 use Rattle.format.specs.Answers.{answered}
 use Rattle.format.specs.Opening.{header_of, open_of}
 use Rattle.format.specs.Decoding.{check_decode, decoded_of}
@@ -19,8 +19,6 @@ use Rattle.format.specs.Reencoding.{reencoded_file}
 use Rattle.format.specs.Boundary.{samples_from, is_mode, mode_of, check_mode, check_bytes, result_of, host_open, check_host_encode, host_encode, host_reencode_refusal}
 use Rattle.format.specs.Promises.{HostOpens, HostDecodes, HostEncodes, HostReencodes, HostReencodeRefuses}
 use Rattle.format.specs.declared.refusals.Refusal.TheVariants.{OutputTooShort}
-use Rattle.format.specs.declared.refusals.Checked.{Checked}
-use Rattle.format.specs.declared.refusals.Checked.TheVariants.{Fine}
 use Rattle.format.specs.declared.settings.PcmSpec.{PcmSpec}
 use Rattle.format.specs.declared.settings.StereoMode.TheVariants.{MidSide}
 use Rattle.format.specs.declared.answers.Outcome.TheVariants.{Opened, Wrote}

@@ -13,14 +13,12 @@ use Rattle.format.specs.Lists.{joined, from}
 use Rattle.format.specs.Header.{is_signature, fields_of, groups_of, entry, group_bytes}
 use Rattle.format.specs.Blocks.{is_block, float_bit}
 use Rattle.format.specs.Units.{is_depth}
-use Rattle.format.specs.Refusals.{refuse, in_order}
+use Rattle.format.specs.Refusals.{Checked, Fine, refuse, in_order}
 use Rattle.format.specs.Places.{at_group, in_group}
 use Rattle.format.specs.Answers.{answered_by, answered}
 use Rattle.format.specs.Opening.{bad_entry, check_fields, check_offsets, check_table, check_first, format_of, check_open, header_for, header_of, open_of}
 use Rattle.format.specs.Decoding.{check_group, group_samples, check_decode, decoded_of}
 use Rattle.format.specs.declared.refusals.Refusal.TheVariants.{EntryBounds}
-use Rattle.format.specs.declared.refusals.Checked.{Checked}
-use Rattle.format.specs.declared.refusals.Checked.TheVariants.{Fine}
 use Rattle.format.specs.declared.settings.SampleFormat.TheVariants.{Pcm, Float}
 use Rattle.format.specs.declared.settings.SampleFormat.{SampleFormat}
 use Rattle.format.specs.declared.answers.Fields.{Fields}

@@ -11,6 +11,7 @@ use native.Mathlib.Omega.{arith}
 use lib.IntN.{ℤ}
 use lib.Ieee as Ieee
 use lib.Ieee.{binary32, nan_bits}
+use Rattle.format.specs.Refusals.{Fine}
 use Rattle.format.specs.Lists.{joined, from}
 use Rattle.format.specs.Numbers.{le, value, code_of}
 use Rattle.format.specs.Header.{fields_of, group_bytes}
@@ -25,7 +26,6 @@ use Rattle.format.specs.Walking.{check_step, step_samples}
 use Rattle.format.specs.FewFrames.{IsAsked, group_of, check_frames, frame_at, frames_at}
 use Rattle.format.specs.Boundary.{sample_bytes}
 use Rattle.format.specs.Promises.{Decodes, Steps, ReadsFrames, HostDecodes}
-use Rattle.format.specs.declared.refusals.Checked.TheVariants.{Fine}
 use Rattle.format.specs.declared.units.Frames.{Frames}
 use Rattle.format.specs.declared.answers.Outcome.TheVariants.{Read}
 use Rattle.format.specs.declared.settings.SampleFormat.{SampleFormat}

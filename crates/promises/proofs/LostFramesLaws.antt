@@ -14,6 +14,7 @@ use lib.Bits.{bit_or, or_step, or_lt}
 use lib.Pow.{shr-shr}
 use lib.Ieee as Ieee
 use lib.Ieee.{binary32, nan_bits}
+use Rattle.format.specs.Refusals.{Fine}
 use Rattle.format.specs.Lists.{joined, from, pairwise}
 use Rattle.format.specs.Header.{fields_of, group_bytes}
 use Rattle.format.specs.Blocks.{mid_bit, samples_of, from_block}
@@ -21,7 +22,6 @@ use Rattle.format.specs.MidSide.{pattern_of, quieted, settled, left, right, left
 use Rattle.format.specs.Opening.{format_of, check_open}
 use Rattle.format.specs.Decoding.{check_group, coded, channels_of, frame_of}
 use Rattle.format.specs.FewFrames.{group_of, frame_at}
-use Rattle.format.specs.declared.refusals.Checked.TheVariants.{Fine}
 use Rattle.format.specs.declared.settings.SampleFormat.{SampleFormat}
 use Rattle.format.specs.declared.answers.Fields.{Fields}
 use Rattle.laws.proofs.Parts.{get_d_tab, behind}

@@ -17,15 +17,13 @@ use Rattle.format.specs.Header.{fields_of, groups_of, group_bytes}
 use Rattle.format.specs.Packed.{width_of, values, is_beyond, rebuilt}
 use Rattle.format.specs.Blocks.{base_of, bits_of, mid_bit, coding_of, decoded, samples_of, from_block}
 use Rattle.format.specs.Units.{active}
-use Rattle.format.specs.Refusals.{nowhere, ◌then◌}
+use Rattle.format.specs.Refusals.{Checked, Fine, No, nowhere, ◌then◌}
 use Rattle.format.specs.Places.{at_group, at_channel}
 use Rattle.format.specs.Encoding.{differences, unwoven, parity, group_in, check_samples}
 use Rattle.format.specs.Reencoding.{new_values, values_for, active_in, check_template_block, check_reencode_block, check_reencode_group}
 use Rattle.format.specs.Reencoding.{check_template, check_reencoder, check_reencode, check_reencode_into}
 use Rattle.format.specs.declared.packed.Coding.{Coding}
 use Rattle.format.specs.declared.packed.Coding.TheVariants.{Differences, Raw, Beyond}
-use Rattle.format.specs.declared.refusals.Checked.{Checked}
-use Rattle.format.specs.declared.refusals.Checked.TheVariants.{Fine, No}
 use Rattle.format.specs.declared.refusals.Refusal.{Refusal}
 use Rattle.format.specs.declared.refusals.Place.{Place}
 use Rattle.format.specs.declared.refusals.Refusal.TheVariants.{WidthTooSmall}

@@ -17,15 +17,13 @@ use Rattle.format.specs.Numbers.{num, num_at, Below}
 use Rattle.format.specs.Packed.{width_of}
 use Rattle.format.specs.Blocks.{block_mark, is_block, mid_bit, float_bit, coding_of, size_of, samples_of, from_block}
 use Rattle.format.specs.MidSide.{left_right}
-use Rattle.format.specs.Refusals.{refuse}
+use Rattle.format.specs.Refusals.{Checked, Fine, refuse}
 use Rattle.format.specs.Places.{at_channel, in_channel}
 use Rattle.format.specs.Units.{active}
 use Rattle.format.specs.Decoding.{is_float, check_block, check_group, coded, channels_of, woven, group_samples}
 use Rattle.format.specs.Encoding.{unwoven, mid_side, parity}
 use Rattle.format.specs.Reencoding.{values_for, reencoded_block, check_reencode_block, active_in, check_reencode_group, reencoded_group}
 use Rattle.format.specs.declared.refusals.Refusal.TheVariants.{NotStereo, ParityDiffers, ShortGroup, TemplateBytesLeft}
-use Rattle.format.specs.declared.refusals.Checked.{Checked}
-use Rattle.format.specs.declared.refusals.Checked.TheVariants.{Fine}
 use Rattle.format.specs.declared.settings.SampleFormat.TheVariants.{Pcm}
 use Rattle.format.specs.declared.answers.Fields.{Fields}
 use Rattle.laws.proofs.Templates as T

@@ -1,5 +1,6 @@
 -- Outcomes read backwards: from what was answered, what the checks said and what lent memory holds. No success is a
 -- refusal, so that either tells which it was.
+use Rattle.std.specs.Prelude.{Ok, Err}
 use Prim.Native.Nat.{ℕ, ◌+◌, ◌*◌, ◌/◌, ◌^◌, ◌≤◌, ◌<◌}
 use mathlib.Core.Path.{◌≡◌, refl, sym, ap, ap₂, ◌∙◌}
 use mathlib.Core.Bool.{Bool, true, false}
@@ -11,14 +12,12 @@ use lib.IntN.{ℤ}
 use borrow.Author.Tests.{le-ltb}
 use Rattle.format.specs.Lists.{over}
 use Rattle.format.specs.Header.{fields_of}
-use Rattle.format.specs.Refusals.{number, ◌then◌}
+use Rattle.format.specs.Refusals.{Checked, Fine, No, number, ◌then◌}
 use Rattle.format.specs.Answers.{answered_by, refused_by, answered, filled, read, wrote}
 use Rattle.format.specs.Decoding.{check_decode, decoded_of, decoded_count, check_room, decode_of, decode_into}
 use Rattle.format.specs.declared.units.Samples.{Samples}
 use Rattle.format.specs.declared.refusals.Refusal.{Refusal}
 use Rattle.format.specs.declared.refusals.Place.{Place}
-use Rattle.format.specs.declared.refusals.Checked.{Checked}
-use Rattle.format.specs.declared.refusals.Checked.TheVariants.{Fine, No}
 use Rattle.format.specs.declared.answers.Outcome.{Outcome}
 use Rattle.format.specs.declared.answers.Outcome.TheVariants.{Opened, Read, Finished, Wrote, Refused, Matches, Differs}
 use Rattle.format.specs.declared.answers.Answer.{Answer}
@@ -50,8 +49,8 @@ module _ (c : Checked) (o x : Outcome) (success : is_refused x ≡ false) (e : a
   succeeds_fine = by c refl
     where
       by : (k : Checked) → c ≡ k → k ≡ Fine
-      by Fine q = refl
-      by (No r at) q = never (sym (ap is_refused (told (No r at) q)) ∙ success)
+      by (Ok ok) q = refl
+      by (Err refused) q = never (sym (ap is_refused (told (No refused.why refused.place) q)) ∙ success)
 
   pub succeeds_as : x ≡ o
   succeeds_as = told Fine succeeds_fine
@@ -60,8 +59,8 @@ module _ (c : Checked) (o x : Outcome) (success : is_refused x ≡ false) (e : a
 module _ (o : Outcome) (success : is_refused o ≡ false) (r : Refusal) where
   -- by its number alone: of some place
   outcome_no : (c : Checked) → Refused r ≡ (answered c o).outcome → (at : Place) × (c ≡ No r at)
-  outcome_no Fine e = never (ap is_refused e ∙ success)
-  outcome_no (No x from) e = let q : x ≡ r = cc in (from, ap (λ (y : Refusal). No y from) q)
+  outcome_no (Ok ok) e = never (ap is_refused e ∙ success)
+  outcome_no (Err refused) e = let q : refused.why ≡ r = cc in (refused.place, ap (λ (y : Refusal). No y refused.place) q)
 
   refused_no : (at : Place) (c : Checked) → refused_by r at ≡ answered c o → c ≡ No r at
   refused_no at c e =
@@ -91,8 +90,8 @@ pub filled_same : {A : Type 0} (c d : Checked) (w v before : List A) → c ≡ d
 filled_same {A} c d w v before e q = ap (λ (k : Checked). filled k w before) e ∙ by d q
   where
     by : (k : Checked) → (k ≡ Fine → w ≡ v) → filled k w before ≡ filled k v before
-    by Fine f = ap (λ (x : List A). over x before) (f refl)
-    by (No r at) f = refl
+    by (Ok ok) f = ap (λ (x : List A). over x before) (f refl)
+    by (Err refused) f = refl
 
 -- what was written lies at the front
 pub written_front : {A : Type 0} (c : Checked) (n : ℕ) (w before after : List A) → c ≡ Fine → n ≡ length w → after ≡ filled c w before → take n after ≡ w
@@ -167,8 +166,8 @@ module _ (c : Checked) (o : Outcome) where
   host_fine n = by c
     where
       by : (k : Checked) → n ≡ result_of (answered k o).outcome → n < 2 ^ 63 → k ≡ Fine
-      by Fine e l = refl
-      by (No r at) e l = absurd (omega arith)
+      by (Ok ok) e l = refl
+      by (Err refused) e l = absurd (omega arith)
 
   pub host_length : (n : ℕ) → n ≡ result_of (answered c o).outcome → n < 2 ^ 63 → n ≡ result_of o
   host_length n e l = e ∙ ap (λ (k : Checked). result_of (answered k o).outcome) (host_fine n e l)
@@ -177,8 +176,8 @@ module _ (c : Checked) (o : Outcome) where
   host_refused = by c
     where
       by : (k : Checked) → (k ≡ Fine → result_of o < 2 ^ 63) → 2 ^ 63 ≤ result_of (answered k o).outcome → (r : Refusal) × (at : Place) × (k ≡ No r at)
-      by Fine few l = let q = few refl in absurd (omega arith)
-      by (No r at) few l = (r, at, refl)
+      by (Ok ok) few l = let q = few refl in absurd (omega arith)
+      by (Err refused) few l = (refused.why, refused.place, refl)
 
   -- the number says by which the checks refuse
   pub host_number : (c ≡ Fine → result_of o < 2 ^ 63) → (n r : ℕ) → r ≡ result_of (answered c o).outcome → r ≡ 2 ^ 63 + n → (x : Refusal) × (at : Place) × (number x ≡ n) × (c ≡ No x at)

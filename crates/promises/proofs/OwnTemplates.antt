@@ -13,7 +13,7 @@ use Rattle.format.specs.Lists.{joined, over, any_below}
 use Rattle.format.specs.Header.{groups_of, entry, group_bytes}
 use Rattle.format.specs.Blocks.{mid_bit}
 use Rattle.format.specs.Units.{active}
-use Rattle.format.specs.Refusals.{in_order}
+use Rattle.format.specs.Refusals.{Checked, Fine, in_order}
 use Rattle.format.specs.Places.{at_group, in_group}
 use Rattle.format.specs.Answers.{answered, filled, wrote}
 use Rattle.format.specs.Opening.{check_offsets}
@@ -23,8 +23,6 @@ use Rattle.format.specs.Reencoding.{check_reencode_group, check_same, check_boun
 use Rattle.format.specs.Boundary.{samples_from, mode_of, result_of, check_bytes, check_host_reencode, host_reencode, host_reencode_into}
 use Rattle.format.specs.Promises.{Encodes, Reencodes, HostEncodes, HostReencodes}
 use Rattle.format.specs.declared.refusals.Refusal.TheVariants.{SampleBytes}
-use Rattle.format.specs.declared.refusals.Checked.{Checked}
-use Rattle.format.specs.declared.refusals.Checked.TheVariants.{Fine}
 use Rattle.format.specs.declared.settings.PcmSpec.{PcmSpec}
 use Rattle.format.specs.declared.settings.StereoMode.{StereoMode}
 use Rattle.format.specs.declared.answers.Fields.{Fields}

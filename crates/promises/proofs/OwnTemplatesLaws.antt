@@ -10,6 +10,7 @@ use lib.Seq.{take_at, drop-length}
 use lib.IntN.{ℤ, pos, negsuc, neg_ℤ}
 use lib.Dec.{ltb, eqb}
 use borrow.Author.Tests.{ltb-true, le-ltb, eq-eqb}
+use Rattle.format.specs.Refusals.{Fine}
 use Rattle.format.specs.Lists.{joined, pairwise}
 use Rattle.format.specs.Numbers.{num_at, code_of}
 use Rattle.format.specs.Packed.{width_of, values, packing}
@@ -19,7 +20,6 @@ use Rattle.format.specs.Places.{at_channel}
 use Rattle.format.specs.Fit.{check_fit}
 use Rattle.format.specs.Encoding.{channel, unwoven, padded, padded_channels, differences, least_width, first_value, block_bytes, encoded_block, blocks, mid, side, mid_side, parity}
 use Rattle.format.specs.Reencoding.{values_for, check_reencode_block, active_in, check_reencode_group}
-use Rattle.format.specs.declared.refusals.Checked.TheVariants.{Fine}
 use Rattle.format.specs.declared.answers.Fields.{Fields}
 use Rattle.laws.proofs.Checks.{pass, ◌and_then◌}
 use Rattle.laws.proofs.Places.{located_all}

@@ -1,5 +1,6 @@
 -- MidSide refuses 35, parity differs, exactly when some frame's two samples differ in parity, and names the group of
 -- the first: frame i of group g is the file's frame 512 g + i, and no other check says 35.
+use Rattle.std.specs.Prelude.{Ok, Err}
 use Prim.Native.Nat.{ℕ, suc, ◌+◌, ◌*◌, ◌/◌, ◌%◌, ◌<◌}
 use mathlib.Core.Path.{◌≡◌, refl, sym, ap, ap₂, ◌∙◌, subst}
 use mathlib.Core.Bool.{Bool, true, false, not, ◌&&◌}
@@ -12,7 +13,7 @@ use lib.Dec.{eqb}
 use borrow.Author.Tests.{not-true}
 use Rattle.format.specs.Lists.{from, pairwise, every}
 use Rattle.format.specs.Header.{groups_of}
-use Rattle.format.specs.Refusals.{number, nowhere, refuse, ◌then◌, in_order}
+use Rattle.format.specs.Refusals.{Checked, Fine, No, number, nowhere, refuse, ◌then◌, in_order}
 use Rattle.format.specs.Places.{at_group, in_group}
 use Rattle.format.specs.Units.{active}
 use Rattle.format.specs.Encoding.{equal_parity, parity, unwoven, group_in, check_encoder, check_samples, is_mid_side, check_stereo, check_size, check_encode, check_encode_into}
@@ -20,8 +21,6 @@ use Rattle.format.specs.declared.units.Frames.{Frames}
 use Rattle.format.specs.declared.settings.PcmSpec.{PcmSpec}
 use Rattle.format.specs.declared.settings.StereoMode.{StereoMode}
 use Rattle.format.specs.declared.settings.StereoMode.TheVariants.{MidSide}
-use Rattle.format.specs.declared.refusals.Checked.{Checked}
-use Rattle.format.specs.declared.refusals.Checked.TheVariants.{Fine, No}
 use Rattle.format.specs.declared.refusals.Refusal.{Refusal}
 use Rattle.format.specs.declared.refusals.Place.{Place}
 use Rattle.format.specs.declared.refusals.Refusal.TheVariants.{NotStereo, ParityDiffers, OutputTooShort}
@@ -190,8 +189,8 @@ module _ (p : PcmSpec) (s : List ℤ) (two : p.channels ≡ 2) (l : length s ≡
   some_first o = by (check_stereo p MidSide s) refl
     where
       by : (k : Checked) → check_stereo p MidSide s ≡ k → (g : ℕ) × FirstOdd s g
-      by (No x at) e = (at.group, (refuses_when x at e).1)
-      by Fine e =
+      by (Err refused) e = (refused.place.group, (refuses_when refused.why refused.place e).1)
+      by (Ok ok) e =
           let b = o.below in
           not_both (odd (o.at / 512)) (group_odd o.at b o.holds)
           (passed _ _ (located_at check at_group (o.at / 512) (groups_of frames) (omega arith) (sym stereo_is ∙ e)))

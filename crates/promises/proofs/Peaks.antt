@@ -19,7 +19,7 @@ use Rattle.format.specs.Lists.{from, over, same}
 use Rattle.format.specs.Numbers.{Below}
 use Rattle.format.specs.Header.{fields_of, groups_of, group_bytes}
 use Rattle.format.specs.Units.{active}
-use Rattle.format.specs.Refusals.{number, nowhere}
+use Rattle.format.specs.Refusals.{Checked, Fine, No, number, nowhere}
 use Rattle.format.specs.Answers.{answered_by, refused_by, answered, read, wrote}
 use Rattle.format.specs.Opening.{format_of}
 use Rattle.format.specs.Decoding.{is_float, channels_of, check_decode, decoded_of}
@@ -29,8 +29,6 @@ use Rattle.format.specs.Promises.{Decodes, BuildsPeaks, ComparesPeaks, ReadsPeak
 use Rattle.format.specs.declared.refusals.Refusal.{Refusal}
 use Rattle.format.specs.declared.refusals.Refusal.TheVariants.{ZeroChannels, OutputTooShort, BytesBehind, PeaksCrossed, FloatFile, PairPastEnd}
 use Rattle.format.specs.declared.refusals.Place.{Place}
-use Rattle.format.specs.declared.refusals.Checked.{Checked}
-use Rattle.format.specs.declared.refusals.Checked.TheVariants.{Fine, No}
 use Rattle.format.specs.declared.units.Frames.{Frames}
 use Rattle.format.specs.declared.answers.Outcome.TheVariants.{Read, Wrote, Matches, Differs}
 use Rattle.format.specs.declared.answers.Answer.{Answer}

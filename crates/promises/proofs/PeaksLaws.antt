@@ -16,7 +16,7 @@ use borrow.Author.Tests.{ltb-true, eq-eqb}
 use Rattle.format.specs.Lists.{tab, joined, from, over, same, every}
 use Rattle.format.specs.Numbers.{Below}
 use Rattle.format.specs.Header.{fields_of, groups_of, group_bytes}
-use Rattle.format.specs.Refusals.{number, nowhere, refuse, ◌then◌}
+use Rattle.format.specs.Refusals.{Checked, Fine, No, number, nowhere, refuse, ◌then◌}
 use Rattle.format.specs.SevenBits.{seven_value}
 use Rattle.format.specs.Blocks.{mid_bit, coding_of, samples_of, from_block}
 use Rattle.format.specs.Packed.{is_beyond}
@@ -33,8 +33,6 @@ use Rattle.format.specs.Peaks.{build_peaks_of, build_peaks_into, verdict, compar
 use Rattle.format.specs.declared.refusals.Refusal.{Refusal}
 use Rattle.format.specs.declared.refusals.Refusal.TheVariants.{OutputTooShort, FloatFile}
 use Rattle.format.specs.declared.refusals.Place.{Place}
-use Rattle.format.specs.declared.refusals.Checked.{Checked}
-use Rattle.format.specs.declared.refusals.Checked.TheVariants.{Fine, No}
 use Rattle.format.specs.declared.units.Samples.{Samples}
 use Rattle.format.specs.declared.settings.SampleFormat.{SampleFormat}
 use Rattle.format.specs.declared.settings.SampleFormat.TheVariants.{Pcm, Float}

@@ -1,5 +1,6 @@
 -- Document 02, L6: where it refused. What a refusal names is what the table says of its number (format, Places), for
 -- each entry; and it is the first: all groups before pass, and in the group all channels before.
+use Rattle.std.specs.Prelude.{Ok, Err}
 use Prim.Native.Nat.{ℕ, ◌+◌, ◌≤◌, ◌<◌}
 use mathlib.Core.Path.{◌≡◌, refl, sym, ap, ◌∙◌, subst}
 use mathlib.Core.Bool.{Bool, true, false, not, ◌&&◌, cond}
@@ -13,7 +14,7 @@ use borrow.Author.Tests.{lt-ltb, le-ltb, ltb-true, ltb-false, not-true}
 use Rattle.format.specs.Lists.{every, is_in}
 use Rattle.format.specs.Header.{fields_of, groups_of, group_bytes}
 use Rattle.format.specs.Blocks.{from_block}
-use Rattle.format.specs.Refusals.{number, nowhere, refuse, ◌then◌, in_order}
+use Rattle.format.specs.Refusals.{Checked, Fine, No, number, nowhere, refuse, ◌then◌, in_order}
 use Rattle.format.specs.Places.{at_group, at_channel, in_group, in_channel, of_groups, of_blocks, outside, inside, IsNamed}
 use Rattle.format.specs.declared.places.Named.{Named}
 use Rattle.format.specs.declared.places.Named.TheVariants.{NoGroup, TheGroup, TheBlock}
@@ -30,14 +31,12 @@ use Rattle.format.specs.Promises.{Opens, Decodes, Steps, ReadsFrames, BuildsPeak
 use Rattle.format.specs.declared.refusals.Refusal.{Refusal}
 use Rattle.format.specs.declared.refusals.Refusal.TheVariants.{EntryBounds, ParityDiffers, OutputTooShort, RangePastEnd, FloatFile}
 use Rattle.format.specs.declared.refusals.Place.{Place}
-use Rattle.format.specs.declared.refusals.Checked.{Checked}
-use Rattle.format.specs.declared.refusals.Checked.TheVariants.{Fine, No}
 use Rattle.format.specs.declared.units.Frames.{Frames}
 use Rattle.format.specs.declared.settings.PcmSpec.{PcmSpec}
 use Rattle.format.specs.declared.settings.StereoMode.{StereoMode}
 use Rattle.format.specs.declared.answers.Fields.{Fields}
 use Rattle.laws.proofs.Tests.{never, and_left, and_right}
-use Rattle.laws.proofs.Checks.{passed, ◌and_then◌, then_assoc, first_fine, others_fine, said_before, in_order_lem, order_cong, order_add}
+use Rattle.laws.proofs.Checks.{same_refusal, passed, ◌and_then◌, then_assoc, first_fine, others_fine, said_before, in_order_lem, order_cong, order_add}
 use Rattle.laws.proofs.Places.{fine_located, located_no}
 use Rattle.laws.proofs.FewFrames.{touched_steps, touched_asked, touched_within}
 use Rattle.laws.proofs.Located.{Says, says_fine, says_refuse, says_located, says_order, ◌says_then◌, ◌and_says◌, refused_so, first_in}
@@ -161,10 +160,10 @@ module _ (before inner : Checked) (b : Bool) where
   only_inner x at e fine other = by before inner b e fine
     where
       by : (a i : Checked) (t : Bool) → ((a then i) then refuse t OutputTooShort) ≡ No x at → a ≡ Fine → i ≡ No x at
-      by (No r l) i t e q = let z : true ≡ false = cc in never z
-      by Fine (No r l) t e q = e
-      by Fine Fine true e q = let w : x ≡ OutputTooShort = cc in absurd (other w)
-      by Fine Fine false e q = e
+      by (Err refused) i t e q = let z : true ≡ false = cc in never z
+      by (Ok ok) (Err refused) t e q = e
+      by (Ok ok) (Ok too) true e q = let w : x ≡ OutputTooShort = sym (same_refusal e) in absurd (other w)
+      by (Ok ok) (Ok too) false e q = e
 
   module _ (groups channels : ℕ) where
     by_table : Says (Outer groups channels) before → (before ≡ Fine → Says (Inner groups channels) inner) → Says (ByTable before groups channels) whole

@@ -13,6 +13,7 @@ use lib.IntN.{ℤ, pos}
 use mir.Syntax.{w32}
 use mir.Val.{SFits}
 use borrow.Author.Tests.{le-ltb, eq-eqb}
+use Rattle.format.specs.Refusals.{Fine}
 use Rattle.format.specs.Lists.{joined, from, same}
 use Rattle.format.specs.Numbers.{num, num_at, Below}
 use Rattle.format.specs.Header.{signature, is_signature, fields_of, groups_of, entry, group_bytes}
@@ -21,7 +22,6 @@ use Rattle.format.specs.Opening.{check_offsets, open_of}
 use Rattle.format.specs.Decoding.{group_samples, check_decode, decoded_of}
 use Rattle.format.specs.Encoding.{group_in}
 use Rattle.format.specs.Reencoding.{check_template, check_reencode, reencoded_file}
-use Rattle.format.specs.declared.refusals.Checked.TheVariants.{Fine}
 use Rattle.format.specs.declared.settings.PcmSpec.{PcmSpec}
 use Rattle.format.specs.declared.settings.SampleFormat.TheVariants.{Pcm}
 use Rattle.format.specs.declared.answers.Fields.{Fields}

@@ -13,10 +13,9 @@ use Rattle.format.specs.Opening.{header_for, open_of}
 use Rattle.format.specs.Decoding.{check_decode, decoded_of}
 use Rattle.format.specs.Encoding.{parity, unwoven, group_in, is_mid_side, check_encoder, check_samples, check_stereo, encoded_group_at, encoded_file, check_size, check_encode, frames_of}
 use Rattle.format.specs.declared.units.Frames.{Frames}
-use Rattle.format.specs.Refusals.{refuse}
+use Rattle.format.specs.Refusals.{Fine, refuse}
 use Rattle.format.specs.Places.{at_group}
 use Rattle.format.specs.declared.refusals.Refusal.TheVariants.{ParityDiffers}
-use Rattle.format.specs.declared.refusals.Checked.TheVariants.{Fine}
 use Rattle.format.specs.declared.settings.PcmSpec.{PcmSpec}
 use Rattle.format.specs.declared.settings.StereoMode.{StereoMode}
 use Rattle.format.specs.declared.settings.StereoMode.TheVariants.{MidSide}

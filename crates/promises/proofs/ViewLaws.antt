@@ -13,7 +13,7 @@ use Rattle.format.specs.Lists.{from, same}
 use Rattle.format.specs.Numbers.{num, num_at}
 use Rattle.format.specs.Header.{is_signature, signature, fields_of, groups_of, entry, group_bytes}
 use Rattle.format.specs.Blocks.{block_mark, is_block, float_bit}
-use Rattle.format.specs.Refusals.{refuse}
+use Rattle.format.specs.Refusals.{Checked, Fine, refuse}
 use Rattle.format.specs.Places.{in_group}
 use Rattle.format.specs.Answers.{answered}
 use Rattle.format.specs.Opening.{check_fields, check_offsets, bad_entry, check_table, check_first, format_of, check_open}
@@ -22,8 +22,6 @@ use Rattle.format.specs.Walking.{check_step}
 use Rattle.format.specs.FewFrames.{range_end, IsAsked, group_of, touched, check_frames, check_frames_into, frame_at, frames_at, read_frames_of, read_frames_into, SameView}
 use Rattle.format.specs.Boundary.{sample_bytes, host_read_frames_into}
 use Rattle.format.specs.declared.refusals.Refusal.TheVariants.{TooShort, FileSignature, BlockSignature, LastEntry, FirstEntry, EntryBounds, OutputTooShort, RangePastEnd}
-use Rattle.format.specs.declared.refusals.Checked.{Checked}
-use Rattle.format.specs.declared.refusals.Checked.TheVariants.{Fine}
 use Rattle.format.specs.declared.settings.SampleFormat.{SampleFormat}
 use Rattle.format.specs.declared.settings.SampleFormat.TheVariants.{Pcm, Float}
 use Rattle.format.specs.declared.units.Frames.{Frames}

@@ -1,5 +1,6 @@
 -- The walk's steps joined are the whole decode, and it checks what they check, in order; what one step tells, by its
 -- answer and by its checks.
+use Rattle.std.specs.Prelude.{Ok, Err}
 use Prim.Native.Nat.{ℕ, ◌+◌, ◌*◌, ◌≤◌, ◌<◌}
 use mathlib.Core.Path.{◌≡◌, refl, sym, ap, ap₂, ◌∙◌}
 use mathlib.Core.Bool.{Bool, true, false, cond}
@@ -13,7 +14,7 @@ use lib.Dec.{ltb}
 use borrow.Author.Tests.{ltb-true, le-ltb}
 use Rattle.format.specs.Lists.{joined, over}
 use Rattle.format.specs.Header.{fields_of, groups_of, group_bytes}
-use Rattle.format.specs.Refusals.{refuse, ◌then◌, in_order}
+use Rattle.format.specs.Refusals.{Checked, Fine, No, refuse, ◌then◌, in_order}
 use Rattle.format.specs.Places.{at_group}
 use Rattle.format.specs.Answers.{answered_by, refused_by, answered, filled, read}
 use Rattle.format.specs.Opening.{format_of, check_open}
@@ -25,14 +26,12 @@ use Rattle.format.specs.declared.units.Samples.{Samples}
 use Rattle.format.specs.declared.refusals.Refusal.{Refusal}
 use Rattle.format.specs.declared.refusals.Place.{Place}
 use Rattle.format.specs.declared.refusals.Refusal.TheVariants.{OutputTooShort}
-use Rattle.format.specs.declared.refusals.Checked.{Checked}
-use Rattle.format.specs.declared.refusals.Checked.TheVariants.{Fine, No}
 use Rattle.format.specs.declared.answers.Fields.{Fields}
 use Rattle.format.specs.declared.answers.Outcome.{Outcome}
 use Rattle.format.specs.declared.answers.Outcome.TheVariants.{Read, Finished}
 use Rattle.format.specs.declared.answers.Answer.{Answer}
 use Rattle.laws.proofs.Tests.{never}
-use Rattle.laws.proofs.Checks.{pass, then_fine, first_fine, others_fine}
+use Rattle.laws.proofs.Checks.{same_refusal, pass, then_fine, first_fine, others_fine}
 use Rattle.laws.proofs.Places.{located_fine}
 use Rattle.laws.proofs.Opened.{opened_fields, some_channels}
 use Rattle.laws.proofs.Lengths.{group_writes}
@@ -136,9 +135,9 @@ reads_or_ends s g room = by (check_walk s g room) (has_group s g)
     ends a none n e = let q = ap (λ (x : Answer). groups_passed x.outcome) e in omega arith
 
     by : (c : Checked) (b : Bool) → let a = answered c (cond b (Read (step_count s g)) Finished) in (a ≡ read (step_count s g).0) ⊎ ((n : ℕ) → a ≡ read n → ⊥)
-    by Fine true = inl refl
-    by Fine false = inr (ends (answered_by Finished) refl)
-    by (No x at) b = inr (ends (refused_by x at) refl)
+    by (Ok ok) true = inl refl
+    by (Ok ok) false = inr (ends (answered_by Finished) refl)
+    by (Err refused) b = inr (ends (refused_by refused.why refused.place) refl)
 
 -- where none is left, the step says done and leaves all as it was
 module _ (s : List ℕ) (g : ℕ) (lent after : List ℤ) (r : Answer) (opens : check_open s ≡ Fine) (none : has_group s g ≡ false) (d : Steps s g lent r after) where
@@ -160,8 +159,8 @@ unfolding check_walk check_step_into ◌then◌ refuse
 any_room s g room room' x at other = by (check_open s) (has_group s g) (check_step s g) (ltb room (step_count s g).0) (ltb room' (step_count s g).0)
   where
     by : (o : Checked) (b : Bool) (c : Checked) (t t' : Bool) → (o then cond b (c then refuse t OutputTooShort) Fine) ≡ No x at → (o then cond b (c then refuse t' OutputTooShort) Fine) ≡ No x at
-    by (No r there) b c t t' e = e
-    by Fine true (No r there) t t' e = e
-    by Fine true Fine true t' e = let q : x ≡ OutputTooShort = cc in absurd (other q)
-    by Fine true Fine false t' e = let z : true ≡ false = cc in never z
-    by Fine false c t t' e = e
+    by (Err refused) b c t t' e = e
+    by (Ok ok) true (Err refused) t t' e = e
+    by (Ok ok) true (Ok too) true t' e = let q : x ≡ OutputTooShort = sym (same_refusal e) in absurd (other q)
+    by (Ok ok) true (Ok too) false t' e = let z : true ≡ false = cc in never z
+    by (Ok ok) false c t t' e = e

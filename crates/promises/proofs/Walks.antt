@@ -1,5 +1,6 @@
 -- The walk: its steps joined are the whole decode, which refuses exactly as the first refusing step; what each step
 -- leaves, and what it says when it is asked again.
+use Rattle.std.specs.Prelude.{Ok, Err}
 use Prim.Native.Nat.{ℕ, zero, suc, ◌+◌, ◌≤◌, ◌<◌}
 use mathlib.Core.Path.{◌≡◌, refl, sym, ap, ◌∙◌, subst}
 use mathlib.Core.Bool.{Bool, true, false, cond}
@@ -11,7 +12,7 @@ use lib.IntN.{ℤ}
 use borrow.Author.Tests.{ltb-true, ltb-false, le-ltb}
 use Rattle.format.specs.Lists.{joined, over}
 use Rattle.format.specs.Header.{fields_of, groups_of}
-use Rattle.format.specs.Refusals.{◌then◌, in_order}
+use Rattle.format.specs.Refusals.{Checked, Fine, No, ◌then◌, in_order}
 use Rattle.format.specs.Answers.{answered_by, refused_by, read}
 use Rattle.format.specs.Opening.{check_open, header_of, open_of}
 use Rattle.format.specs.Decoding.{check_decode, decoded_of, decoded_count, check_room}
@@ -20,8 +21,6 @@ use Rattle.format.specs.Promises.{Opens, Decodes, Steps, Advances}
 use Rattle.format.specs.declared.refusals.Refusal.{Refusal}
 use Rattle.format.specs.declared.refusals.Place.{Place}
 use Rattle.format.specs.declared.refusals.Refusal.TheVariants.{OutputTooShort}
-use Rattle.format.specs.declared.refusals.Checked.{Checked}
-use Rattle.format.specs.declared.refusals.Checked.TheVariants.{Fine, No}
 use Rattle.format.specs.declared.answers.Header.{Header}
 use Rattle.format.specs.declared.answers.Outcome.TheVariants.{Opened, Finished}
 use Rattle.format.specs.declared.answers.Answer.{Answer}
@@ -190,8 +189,8 @@ module _ (s : List ℕ) (lent : ℕ → List ℤ) (w : WholeWalk s lent) where
       refuses_there = by (check_step s k) refl
         where
           by : (c : Checked) → check_step s k ≡ c → in_order (check_step s) groups ≡ c
-          by Fine e = never (sym left ∙ not_left (as_step ∙ e))
-          by (No x at) e = order_refuses (check_step s) groups x at (record { at = k; below = below; before = before_fine; refuses = e })
+          by (Ok ok) e = never (sym left ∙ not_left (as_step ∙ e))
+          by (Err refused) e = order_refuses (check_step s) groups refused.why refused.place (record { at = k; below = below; before = before_fine; refuses = e })
 
     same_checks : check_decode s ≡ last_check
     unfolding check_walk

@@ -5,29 +5,24 @@ mod checking;
 
 ghost use Rattle.std.specs.Prelude.{◌≡◌};
 ghost use Rattle.format.specs.Promises.{Decodes};
-ghost use Rattle.lent_samples.specs.Lent.{lent_of, rest_of};
 
 pub use checking::{check_decode, check_file};
-use format::{Answer, Checked, Frames, Outcome};
-use lent_samples::Container;
+use format::{Answer, Frames, Outcome};
+use lent_samples::Stored;
 
 // Decodes a file into samples that are lent in either container: how many were put at their front, or the refusal. Then
 // and behind what was put, all that is lent stays as it was.
-pub fn decode_lent(which: Container, file: &[u8], words: &mut [i32], bytes: &mut [u8]) -> Answer
-    ensures decodes { let lent = lent_of which words.old bytes.old in
-        Decodes file.now lent result (lent_of which words.new bytes.new) }
-    ensures keeps { let rest = rest_of which words.old bytes.old in
-        rest_of which words.new bytes.new ≡ rest }
+pub fn decode_samples<E: Stored>(file: &[u8], lent: &mut [E]) -> Answer
+    ensures decodes { Decodes file.now (E.samples lent.old) result (E.samples lent.new) }
+    ensures keeps { E.rest lent.new ≡ E.rest lent.old }
 {
-    if let Checked::No(r, place) = check_decode(file, lent_samples::count(which, words, bytes)) {
-        return Answer::refused(r, place);
+    if let Err(refused) = check_decode(file, E::count(lent)) {
+        return Answer::refused(refused);
     }
     let h = header::read_fields(file);
     let frames = h.frames;
     groups::put_frames(
-        which,
-        words,
-        bytes,
+        lent,
         file,
         h,
         opening::format_of(file, h),
@@ -35,11 +30,4 @@ pub fn decode_lent(which: Container, file: &[u8], words: &mut [i32], bytes: &mut
         frames,
     );
     Answer::of(Outcome::Read(frames.samples(h.channels)))
-}
-
-// The same into numbers.
-pub fn decode_samples(file: &[u8], out: &mut [i32]) -> Answer
-    ensures { Decodes file.now out.old result out.new }
-{
-    decode_lent(Container::Words, file, out, &mut [])
 }

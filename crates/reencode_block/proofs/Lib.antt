@@ -1,3 +1,4 @@
--- the values that are packed; the checks of a template's block at each way out, and the new block's bytes
+-- the values that are packed; a template's block and its checks; the new block's bytes
 pub mod Values
-pub mod Blocks
+pub mod Checks
+pub mod Bytes

@@ -11,12 +11,10 @@ use mir.Syntax.{w64}
 use mir.Val.{Fits}
 use Rattle.format.specs.Lists.{joined, over}
 use Rattle.format.specs.Blocks.{mid_bit, size_of, from_block}
-use Rattle.format.specs.Refusals.{in_order}
+use Rattle.format.specs.Refusals.{Checked, Fine, in_order}
 use Rattle.format.specs.Places.{at_channel}
 use Rattle.format.specs.Encoding.{mid_side, parity}
 use Rattle.format.specs.Reencoding.{reencoded_block, check_reencode_block, active_in, check_reencode_group, reencoded_group}
-use Rattle.format.specs.declared.refusals.Checked.{Checked}
-use Rattle.format.specs.declared.refusals.Checked.TheVariants.{Fine}
 use Rattle.lent_samples.specs.Lent.{frames_from}
 use Rattle.laws.proofs.Over.{lend_turn}
 use Rattle.laws.proofs.Parts.{one_more, joined_cong}

@@ -1,101 +1,85 @@
 // The job, and its report line by line. The first refusal is the last line.
-ghost use Rattle.std.specs.Prelude.{◌≡◌, replicate, pos};
-
 use crate::MOST_BYTES;
-use crate::text::{print_count, print_done};
+use crate::text::print_done;
 use format::{Header, Outcome};
 use remaster_job::{Kept, ReadBack, Report, Restored, Rewritten};
-use report::{print, print_opened};
+use report::print_opened;
 use std::io;
 
 // The most samples that are taken.
 const MOST_SAMPLES: usize = 131072;
-
-fn room() -> [i32; MOST_SAMPLES]
-    ensures { result ≡ replicate 131072 (pos 0) }
-{
-    [0; MOST_SAMPLES]
-}
 
 // This and the next say whether there was no refusal.
 fn print_restored(rt: &impl Print, restored: Restored) -> io::Result<bool> {
     if !print_done(rt, restored.answer)? {
         return Ok(false);
     }
-    if restored.is_itself {
-        print(rt, b", the file itself\n")?;
+    let what = if restored.is_itself {
+        "the file itself"
     } else {
-        print(rt, b", another file\n")?;
-    }
+        "another file"
+    };
+    println!(rt; ", {what}")?;
     Ok(true)
 }
 
 fn print_rewritten(rt: &impl Print, rewritten: Rewritten) -> io::Result<bool> {
-    print(rt, b"re-encode with its own samples: ")?;
+    print!(rt; "re-encode with its own samples: ")?;
     if !print_restored(rt, rewritten.restored)? {
         return Ok(false);
     }
-    print(rt, b"re-encode with every sample halved, parity kept: ")?;
+    print!(rt; "re-encode with every sample halved, parity kept: ")?;
     print_done(rt, rewritten.written)
 }
 
 // What of the file is the same in what was written with the halved samples.
 fn print_kept(rt: &impl Print, kept: Kept) -> io::Result<()> {
-    print(rt, b", ")?;
-    print_count(rt, kept.all)?;
-    print(rt, b" as before\nkept: ")?;
-    print_count(rt, kept.before)?;
-    print(rt, b" bytes before the data, ")?;
-    print_count(rt, kept.headers)?;
-    print(rt, b" block headers but for the base of differences, ")?;
-    print_count(rt, kept.behind)?;
-    print(rt, b" bytes behind the data\n")
+    println!(rt; ", {} as before", kept.all)?;
+    print!(rt; "kept: {} bytes before the data, ", kept.before)?;
+    print!(rt;
+        "{} block headers but for the base of differences, ",
+        kept.headers
+    )?;
+    println!(rt; "{} bytes behind the data", kept.behind)
 }
 
 // What is found in what was written.
 fn print_back(rt: &impl Print, back: ReadBack) -> io::Result<()> {
-    print(rt, b"open what was written: ")?;
+    print!(rt; "open what was written: ")?;
     print_opened(rt, back.opened, b", ")?;
-    print(rt, b"decode what was written: ")?;
+    print!(rt; "decode what was written: ")?;
     if !print_done(rt, back.decoded)? {
         return Ok(());
     }
-    print(rt, b", ")?;
-    print_count(rt, back.halves)?;
-    print(
-        rt,
-        b" the halved ones\nre-encode what was written with the file's own samples: ",
-    )?;
+    println!(rt; ", {} the halved ones", back.halves)?;
+    print!(rt; "re-encode what was written with the file's own samples: ")?;
     print_restored(rt, back.restored)?;
     Ok(())
 }
 
 fn print_report(rt: &impl Print, report: Report) -> io::Result<()> {
-    let rewritten = report.rewritten;
-    print(rt, b"decode: ")?;
+    print!(rt; "decode: ")?;
     if !print_done(rt, report.decoded)? {
         return Ok(());
     }
-    print(rt, b"\n")?;
-    if !print_rewritten(rt, rewritten)? {
+    println!(rt)?;
+    if !print_rewritten(rt, report.rewritten)? {
         return Ok(());
     }
-    print_kept(rt, rewritten.kept)?;
+    print_kept(rt, report.rewritten.kept)?;
     print_back(rt, report.back)
 }
 
 // The job on a file that opens, with as much room as its samples ask for.
 fn run_opened(rt: &impl Print, file: &[u8], h: Header, out: &mut [u8]) -> io::Result<()> {
-    let frames = h.frames;
-    let samples = frames.samples(h.channels);
-    let n = samples.0 as usize;
+    let n = h.frames.samples(h.channels).0 as usize;
     if MOST_SAMPLES < n {
-        return print(rt, b"too large\n");
+        return println!(rt; "too large");
     }
-    let mut old = room();
-    let mut new = room();
-    let mut read = room();
-    let mut again = [0u8; MOST_BYTES];
+    let mut old = [0; MOST_SAMPLES];
+    let mut new = [0; MOST_SAMPLES];
+    let mut read = [0; MOST_SAMPLES];
+    let mut again = [0; MOST_BYTES];
     let report = remaster_job::job(
         file,
         h,
@@ -110,17 +94,16 @@ fn run_opened(rt: &impl Print, file: &[u8], h: Header, out: &mut [u8]) -> io::Re
 
 // Does the job on a file and prints its report.
 pub fn run(rt: &impl Print, file: &[u8]) -> io::Result<()> {
-    let mut out = [0u8; MOST_BYTES];
+    let mut out = [0; MOST_BYTES];
     let n = file.len();
     if MOST_BYTES < n {
-        return print(rt, b"too large\n");
+        return println!(rt; "too large");
     }
-    print(rt, b"open: ")?;
+    print!(rt; "open: ")?;
     let answer = opening::open(file);
     print_opened(rt, answer, b", ")?;
-    let outcome = answer.outcome;
-    if let Outcome::Opened(h) = outcome {
-        return run_opened(rt, file, h, &mut out[..n]);
+    if let Outcome::Opened(h) = answer.outcome {
+        run_opened(rt, file, h, &mut out[..n])?;
     }
     Ok(())
 }

@@ -1,15 +1,15 @@
 -- A block beside another, by the tests that tell.
 use Prim.Native.Nat.{ℕ, ◌+◌, ◌-◌, ◌*◌, ◌<◌, ◌≤◌}
 use mathlib.Core.Path.{◌≡◌, refl, sym, ap, ◌∙◌}
-use mathlib.Core.Bool.{Bool, true, false, ◌&&◌}
+use mathlib.Core.Bool.{Bool, true, false}
 use mathlib.Core.List.{List}
 use native.Mathlib.Numerals.{add-one}
 use native.Mathlib.Omega.{arith}
 use lib.ListN.{length, take, drop, length-drop}
-use lib.Dec.{eqb, leb}
+use lib.Dec.{leb}
 use mir.Syntax.{w16}
 use mir.Val.{SFits, to_z, of_z}
-use borrow.Author.Tests.{eq-eqb, ne_eqb, le-leb, lt-leb}
+use borrow.Author.Tests.{le-leb, lt-leb}
 use borrow.Author.Rules.{part_to_end}
 use Rattle.format.specs.Packed.{coding, width_of}
 use Rattle.format.specs.Blocks.{size_of}
@@ -18,27 +18,14 @@ use Rattle.format.specs.declared.packed.Coding.TheVariants.{Differences, Raw, Be
 use Rattle.block.specs.Read.{block_header}
 use Rattle.block.specs.declared.BlockHeader.{BlockHeader}
 use Rattle.block.proofs.Headers.{coding_is, size_is}
-use Rattle.remaster_compare.specs.Same.{same_byte, counted, are_same}
 use Rattle.remaster_compare.specs.Kept.{compared_from, is_header_kept, is_whole, is_kept_at, end_of, block_at, place_of, is_kept}
-use Rattle.remaster_compare.specs.declared.Count.{Count}
 use Rattle.remaster_compare.specs.declared.Block.{Block}
+use Rattle.remaster_compare.proofs.Counts.{count_turn, count_most}
 
 pub from_most : (k : Coding) → compared_from k ≤ 8
 from_most (Differences b) = omega arith
 from_most (Raw b) = omega arith
 from_most Beyond = omega arith
-
-module _ (k : Coding) (old new : List ℕ) (at : ℕ) (mark : Count) (m : mark ≡ counted (same_byte old new) at (at + 4)) where
-  rest_is : {t : Bool} → are_same mark ≡ t → (t && are_same (counted (same_byte old new) (at + compared_from k) (at + 16))) ≡ is_header_kept k old new at
-  unfolding is_header_kept
-  rest_is e = ap (λ (t : Bool). t && are_same (counted (same_byte old new) (at + compared_from k) (at + 16))) (sym e ∙ ap are_same m)
-
-  pub mark_differs : (mark.same ≡ mark.all → ⊥) → eqb mark.same mark.all ≡ is_header_kept k old new at
-  mark_differs h = let e : are_same mark ≡ false = ne_eqb mark.same mark.all h in e ∙ rest_is e
-
-  pub mark_same : (n : ℕ) (rest : Count) → n ≡ compared_from k → rest ≡ counted (same_byte old new) (at + n) (at + 16) → mark.same ≡ mark.all
-      → eqb rest.same rest.all ≡ is_header_kept k old new at
-  mark_same n rest f r h = ap are_same (r ∙ ap (λ (n : ℕ). counted (same_byte old new) (at + n) (at + 16)) f) ∙ rest_is (eq-eqb mark.same mark.all h)
 
 -- ---- a block, by its length
 module _ (depth : ℕ) (old new : List ℕ) (at : ℕ) where
@@ -49,9 +36,6 @@ module _ (depth : ℕ) (old new : List ℕ) (at : ℕ) where
   pub no_header : length old - at < 16 → ◌≡◌ {A = Block} (record { is_kept = false; end = at }) (block_at depth old new at)
   unfolding size_of
   no_header h = no_block (omega (arith, length-drop at old))
-
-  pub no_place : length old < at → ◌≡◌ {A = Block} (record { is_kept = false; end = at }) (block_at depth old new at)
-  no_place h = no_header (omega arith)
 
   module _ (b : BlockHeader) (k : Coding) (w : ℕ) (header : b ≡ block_header (take (length old - at) (drop at old))) (fits : SFits w16 b.bits)
       (coded : k ≡ coding depth (to_z w16 (of_z w16 b.bits))) (wide : w ≡ width_of k) where
@@ -71,6 +55,8 @@ module _ (depth : ℕ) (old new : List ℕ) (at : ℕ) where
         let fine : leb (size_of depth (drop at old)) (length (drop at old)) ≡ true = le-leb (size_of depth (drop at old)) (length (drop at old)) (omega (arith, length-drop at old, size)) in
         rw (fine, e, coding_is depth (drop at old) b there fits k coded, size)
 
+pub ruleset one_block = (no_header, no_values, whole_block)
+
 -- ---- one block after another
 pub first_place : (depth : ℕ) (old : List ℕ) (start : ℕ) → start ≡ place_of depth old start 0
 unfolding place_of
@@ -83,3 +69,5 @@ module _ (depth : ℕ) (old new : List ℕ) (start i at : ℕ) (b : Block) (e : 
 
   pub kept_is : b.is_kept ≡ is_kept depth old new start i
   kept_is = ap (λ (x : Block). x.is_kept) is ∙ ap (is_kept_at depth old new) e
+
+pub ruleset blocks = (first_place, next_place, kept_is, count_turn, count_most)

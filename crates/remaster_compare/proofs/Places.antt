@@ -1,23 +1,15 @@
 -- Whether place i of two lists is the same, by the tests that tell.
-use Prim.Native.Nat.{ℕ, ◌<◌, ◌≤◌}
-use mathlib.Core.Path.{◌≡◌, sym, ap}
-use mathlib.Core.Bool.{Bool, true, false, ◌&&◌}
+use Prim.Native.Nat.{ℕ, ◌<◌}
+use mathlib.Core.Path.{◌≡◌}
+use mathlib.Core.Bool.{Bool, true}
 use mathlib.Core.List.{List}
 use lib.ListN.{length, get_or}
 use lib.Dec.{ltb}
-use borrow.Author.Tests.{lt-ltb, le-ltb, ltb-true}
-use Rattle.laws.proofs.Tests.{and_left, and_right, and_no}
+use borrow.Author.Tests.{lt-ltb, ltb-true}
+use Rattle.laws.proofs.Tests.{and_left, and_right}
 use Rattle.remaster_compare.specs.Same.{same_at}
 
 module _ {A : Type 0} (equal : A → A → Bool) (z : A) (xs ys : List A) (i : ℕ) where
-  pub first_ends : length xs ≤ i → false ≡ same_at equal z xs ys i
-  unfolding same_at
-  first_ends h = rw (le-ltb i (length xs) h)
-
-  pub second_ends : length ys ≤ i → false ≡ same_at equal z xs ys i
-  unfolding same_at
-  second_ends h = sym (and_no (ltb i (length xs)) _ (ap (λ (t : Bool). t && equal (get_or xs i z) (get_or ys i z)) (le-ltb i (length ys) h)))
-
   pub both_have : (t : Bool) → i < length xs → i < length ys → t ≡ equal (get_or xs i z) (get_or ys i z) → t ≡ same_at equal z xs ys i
   unfolding same_at
   both_have t h k e = rw (lt-ltb i (length xs) h, lt-ltb i (length ys) k) e

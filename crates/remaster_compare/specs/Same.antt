@@ -1,5 +1,6 @@
 -- Two lists beside each other: where they are the same, and at how many places.
-use Rattle.std.specs.Prelude.{ℕ, zero, suc, ◌+◌, ◌-◌, Bool, cond, ◌&&◌, List, length, get_or, ℤ, pos, eqb, ltb}
+use Rattle.std.specs.Prelude.{ℕ, ◌-◌, Bool, ◌&&◌, List, length, get_or, ℤ, pos, eqb, ltb, count_by}
+use Rattle.std.specs.List.{range_with_len}
 use Rattle.sample.specs.Equal.{equal_samples}
 use Rattle.remaster_compare.specs.declared.Count.{Count}
 
@@ -14,14 +15,9 @@ same_byte a b i = same_at eqb 0 a b i
 abbrev pub same_sample : List ℤ → List ℤ → ℕ → Bool
 same_sample a b i = same_at equal_samples (pos 0) a b i
 
--- what a place adds to a count, by its test
-abbrev pub one_if : Bool → ℕ
-one_if t = cond t 1 0
-
 -- how many of the n places from `start` on have the test
-unfoldable pub count_of : (ℕ → Bool) → ℕ → ℕ → ℕ
-count_of test start zero = 0
-count_of test start (suc n) = count_of test start n + one_if (test (start + n))
+abbrev pub count_of : (ℕ → Bool) → ℕ → ℕ → ℕ
+count_of test start n = count_by test (range_with_len start n)
 
 -- of the places from `start` on, before `end`: how many have the test, and how many there are
 abbrev pub counted : (ℕ → Bool) → ℕ → ℕ → Count

@@ -1,12 +1,13 @@
 // Two files, or two lists of samples, beside each other.
 #![tactic(auto)]
 
-ghost use Rattle.std.specs.Prelude.{◌≡◌, ◌+◌, ◌*◌, ◌≤◌, length};
-ghost use Rattle.remaster_compare.specs.Same.{same_byte, same_sample, one_if, counted};
+ghost use Rattle.std.specs.Prelude.{◌≡◌, ◌+◌, ◌-◌, ◌*◌, ◌≤◌, length};
+ghost use Rattle.remaster_compare.specs.Same.{same_byte, same_sample, count_of, counted, are_same};
 ghost use Rattle.remaster_compare.specs.Kept.{compared_from, is_header_kept, block_at, is_kept};
 
 use block::BlockHeader;
 use format::{Coding, Header};
+use std::fmt;
 
 // Of so many, how many are the same.
 #[derive(Clone, Copy)]
@@ -15,63 +16,65 @@ pub struct Count {
     pub all: usize,
 }
 
-// What a place adds to a count.
-fn one(yes: bool) -> usize
-    ensures { result ≡ one_if yes }
-{
-    if yes { 1 } else { 0 }
+impl Count {
+    // Whether each of all is the same.
+    pub fn are_same(self) -> bool
+        ensures { result ≡ are_same self }
+    {
+        self.same == self.all
+    }
+}
+
+impl fmt::Display for Count {
+    fn fmt<W: fmt::Write>(&self, f: &mut fmt::Formatter<W>) -> fmt::Result {
+        write!(f, "{} of {}", self.same, self.all)
+    }
 }
 
 // A place that one of the two lacks is not the same.
+#[tactic(auto, unfolding(crate::specs::Same::same_at))]
 fn is_same_byte(old: &[u8], new: &[u8], i: usize) -> bool
     ensures { result ≡ same_byte old.now new.now i }
 {
-    if old.len() <= i {
-        return false;
-    }
-    if new.len() <= i {
-        return false;
-    }
-    old[i] == new[i]
+    i < old.len() && i < new.len() && old[i] == new[i]
 }
 
+#[tactic(auto, using(sample::proofs::Equals::equal_bits), unfolding(crate::specs::Same::same_at))]
 fn is_same_sample(a: &[i32], b: &[i32], i: usize) -> bool
     ensures { result ≡ same_sample a.now b.now i }
 {
-    if a.len() <= i {
-        return false;
-    }
-    if b.len() <= i {
-        return false;
-    }
-    a[i] == b[i]
+    i < a.len() && i < b.len() && a[i] == b[i]
+}
+
+// How many bytes from `start` on, before `end`, are the same in both.
+fn count_bytes(old: &[u8], new: &[u8], start: usize, end: usize) -> usize
+    ensures { result ≡ count_of (same_byte old.now new.now) start (end - start) }
+{
+    (start..end).filter(|i| is_same_byte(old, new, *i)).count()
 }
 
 // Counts the bytes from `start` on, before `end`, that are the same in both.
 pub fn same_bytes(old: &[u8], new: &[u8], start: usize, end: usize) -> Count
     ensures { result ≡ counted (same_byte old.now new.now) start end }
 {
-    let mut same: usize = 0;
-    let mut all: usize = 0;
-    let mut i = start;
-    while i < end {
-        same += one(is_same_byte(old, new, i));
-        all += 1;
-        i += 1;
+    Count {
+        same: count_bytes(old, new, start, end),
+        all: end.saturating_sub(start),
     }
-    Count { same, all }
+}
+
+// How many of the first n samples are the same in both.
+fn count_samples(a: &[i32], b: &[i32], n: usize) -> usize
+    ensures { result ≡ count_of (same_sample a.now b.now) 0 n }
+{
+    (0..n).filter(|i| is_same_sample(a, b, *i)).count()
 }
 
 // Counts the first n samples that are the same in both.
 pub fn same_samples(a: &[i32], b: &[i32], n: usize) -> Count
     ensures { result ≡ counted (same_sample a.now b.now) 0 n }
 {
-    let mut same: usize = 0;
-    let mut i: usize = 0;
-    while i < n {
-        same += one(is_same_sample(a, b, i));
-        i += 1;
-    }
+    let same = count_samples(a, b, n);
     Count { same, all: n }
 }
 
@@ -88,22 +91,23 @@ fn compared_from(coding: Coding) -> usize
 {
     match coding {
         Coding::Differences(_) => 8,
-        Coding::Raw(_) => 4,
-        Coding::Beyond => 4,
+        Coding::Raw(_) | Coding::Beyond => 4,
     }
 }
 
 // Whether the header of the block that begins there is kept, but for the base of differences.
+#[tactic(auto, using(crate::proofs::Headers::from_most), unfolding(crate::specs::Kept::is_header_kept))]
 fn is_header_kept(old: &[u8], new: &[u8], at: usize, coding: Coding) -> bool
     requires { at + 16 ≤ length old.now }
     ensures { result ≡ is_header_kept coding old.now new.now at }
 {
     let mark = same_bytes(old, new, at, at + 4);
     let rest = same_bytes(old, new, at + compared_from(coding), at + 16);
-    mark.same == mark.all && rest.same == rest.all
+    mark.are_same() && rest.are_same()
 }
 
 // The block that begins there; where no whole one does, it ends there too.
+#[tactic(auto, using(crate::proofs::Headers::one_block))]
 fn block_at(old: &[u8], new: &[u8], at: usize, depth: u16) -> Block
     ensures { result ≡ block_at depth old.now new.now at }
 {
@@ -111,16 +115,14 @@ fn block_at(old: &[u8], new: &[u8], at: usize, depth: u16) -> Block
         is_kept: false,
         end: at,
     };
-    if old.len() < at {
-        return none;
-    }
-    if old.len() - at < 16 {
+    let left = old.len().saturating_sub(at);
+    if left < 16 {
         return none;
     }
     let b = BlockHeader::read(&old[at..]);
     let coding = block::coding(depth, b.bits);
     let size = 16 + 64 * block::width(coding) as usize;
-    if old.len() - at < size {
+    if left < size {
         return none;
     }
     Block {
@@ -137,6 +139,7 @@ pub fn block_count(h: Header) -> usize
 }
 
 // Counts the headers that are kept, of so many blocks of the old file, which follow each other from `start` on.
+#[tactic(auto, using(crate::proofs::Headers::blocks))]
 pub fn same_headers(old: &[u8], new: &[u8], depth: u16, start: usize, all: usize) -> Count
     ensures { result ≡ counted (is_kept depth old.now new.now start) 0 all }
 {
@@ -144,7 +147,9 @@ pub fn same_headers(old: &[u8], new: &[u8], depth: u16, start: usize, all: usize
     let mut at = start;
     for i in 0..all {
         let b = block_at(old, new, at, depth);
-        same += one(b.is_kept);
+        if b.is_kept {
+            same += 1;
+        }
         at = b.end;
     }
     Count { same, all }

@@ -1,46 +1,38 @@
 -- Half of a sample by its 32 bits, its parity, and samples halved one by one.
-use Rattle.std.proofs.Common.{◌≡◌, ℕ, suc, ◌+◌, ◌-◌, ◌*◌, ◌/◌, ◌%◌, ◌^◌, ◌<◌, ◌≤◌, min, Bool, true, false, cond, eqb, ltb, List, ◌++◌, map, length, get_or, take, drop, set, ℤ, pos, negsuc, nat_abs, sym, refl, ap, ◌∙◌, ap₂, zero-add, add-one, arith, w32, SFits, to_z, of_z, ltb-false, ltb-true}
+use Rattle.std.proofs.Common.{◌≡◌, ℕ, suc, ◌+◌, ◌-◌, ◌*◌, ◌/◌, ◌%◌, ◌^◌, ◌<◌, ◌≤◌, Bool, true, false, cond, eqb, ltb, List, ◌++◌, map, length, get_or, take, drop, set, to_z-of_z, ℤ, pos, negsuc, nat_abs, sym, refl, ap, ◌∙◌, ap₂, zero-add, add-one, arith, w32, SFits, to_z, of_z, ltb-false, ltb-true}
 use lib.ListN.{length-map, get_or-map}
 use lib.Seq.{paste, paste-suc}
-use lib.IntN.{sub_ℕ}
-use lib.Signed.{mag}
-use mir.ValLaws.{to_z-of_z}
-use Rattle.format.specs.Numbers.{value, code_of}
+use lib.IntN.{sub_ℕ, ◌+ℤ◌, ◌*ℤ◌}
+use Rattle.std.specs.Int.Signed.{shr_z}
+use Rattle.std.proofs.lemmas.Int.{ints}
+use Rattle.std.proofs.lemmas.Nat.{and_mask}
+use lib.Bits.{bit_and}
 use Rattle.format.specs.Encoding.{equal_parity}
-use Rattle.laws.proofs.Signs.{value_pos, value_neg, value_holds}
 use Rattle.sample.specs.Raised.{raised}
-use Rattle.remaster_job.specs.Halving.{halved, halved_into}
+use Rattle.remaster_job.specs.Halving.{halved}
 
--- ---- by the bits, as the code has it
-bits_raised : (x : ℤ) → SFits w32 x → (code_of 32 x + 2 ^ 31) % 2 ^ 32 ≡ raised x
-bits_raised (pos n) f = omega (arith, f.sfits)
-bits_raised (negsuc n) f = omega (arith, f.sfits)
-
-raised_most : (x : ℤ) → SFits w32 x → raised x < 2 ^ 32
-raised_most (pos n) f = omega (arith, f.sfits)
-raised_most (negsuc n) f = omega arith
-
-half_most : (n : ℕ) → n < 2 ^ 32 → n / 4 * 2 + n % 2 < 2 ^ 31
-half_most n h = omega arith
-
-lowered : (v r : ℕ) → v < 2 ^ 31 → r < 2 ^ 32 → (r + 2 ^ 30) % 2 ^ 32 ≡ v → value 32 r ≡ sub_ℕ v (2 ^ 30)
-lowered v r h l e = by (ltb v (2 ^ 30)) refl
+-- ---- as the code has it: a quarter, rounded down, twice, and the lowest bit
+lowered : (v : ℕ) (z : ℤ) → z +ℤ pos (2 ^ 30) ≡ pos v → z ≡ sub_ℕ v (2 ^ 30)
+lowered v z e = by (ltb v (2 ^ 30)) refl
   where
-    by : (t : Bool) → ltb v (2 ^ 30) ≡ t → value 32 r ≡ cond t (negsuc (2 ^ 30 - suc v)) (pos (v - 2 ^ 30))
-    by true t =
-        let less : v < 2 ^ 30 = ltb-true v (2 ^ 30) t in
-        value_neg 32 r (omega arith) l ∙ ap negsuc (omega arith)
-    by false t =
-        let more : 2 ^ 30 ≤ v = ltb-false v (2 ^ 30) t in
-        value_pos 32 r (omega arith) ∙ ap pos (omega arith)
+    by : (t : Bool) → ltb v (2 ^ 30) ≡ t → z ≡ cond t (negsuc (2 ^ 30 - suc v)) (pos (v - 2 ^ 30))
+    by true t = let less : v < 2 ^ 30 = ltb-true v (2 ^ 30) t in omega (arith, ints)
+    by false t = let more : 2 ^ 30 ≤ v = ltb-false v (2 ^ 30) t in omega (arith, ints)
 
-pub half_is : (x : ℤ) {z : ℤ} {b u r : ℕ} → SFits w32 x → b ≡ code_of 32 (to_z w32 (of_z w32 x)) → u ≡ (b + 2 ^ 31) % 2 ^ 32
-    → (r + 2 ^ 30) % 2 ^ 32 ≡ u / 4 * 2 + u % 2 → r < 2 ^ 32 → z ≡ value 32 r → to_z w32 (of_z w32 z) ≡ halved x
+half_by : (x : ℤ) → SFits w32 x → shr_z x 4 *ℤ pos 2 +ℤ pos (of_z w32 x % 2) ≡ halved x
 unfolding halved
-half_is x {z} {b} {u} {r} f eb eu er l ez =
-    let up : u ≡ raised x = eu ∙ ap (λ (n : ℕ). (n + 2 ^ 31) % 2 ^ 32) (eb ∙ ap (code_of 32) (to_z-of_z w32 x f)) ∙ bits_raised x f in
-    let fits : mag z < 2 ^ 31 = rw ez (value_holds 32 r (omega arith) l) in
-    to_z-of_z w32 z (record { sfits = fits }) ∙ ez ∙ lowered (raised x / 4 * 2 + raised x % 2) r (half_most (raised x) (raised_most x f)) l (er ∙ ap (λ (n : ℕ). n / 4 * 2 + n % 2) up)
+half_by (pos n) f = lowered (raised (pos n) / 4 * 2 + raised (pos n) % 2) _ (omega (arith, ints, f.sfits))
+half_by (negsuc n) f = lowered (raised (negsuc n) / 4 * 2 + raised (negsuc n) % 2) _ (omega (arith, ints, f.sfits))
+
+held : (x : ℤ) → SFits w32 x → to_z w32 (of_z w32 (to_z w32 (of_z w32 (to_z w32 (of_z w32 (shr_z x 4)) *ℤ pos 2)) +ℤ to_z w32 (of_z w32 x % 2)))
+    ≡ shr_z x 4 *ℤ pos 2 +ℤ pos (of_z w32 x % 2)
+held (pos n) f = omega (arith, ints, f.sfits)
+held (negsuc n) f = omega (arith, ints, f.sfits)
+
+pub half_is : (x : ℤ) → SFits w32 x
+    → to_z w32 (of_z w32 (to_z w32 (of_z w32 (to_z w32 (of_z w32 (shr_z (to_z w32 (of_z w32 x)) 4)) *ℤ pos 2)) +ℤ to_z w32 (bit_and (of_z w32 x) 1)))
+    ≡ halved x
+half_is x f = rw (to_z-of_z f, and_mask (of_z w32 x) 1) (held x f ∙ half_by x f)
 
 -- ---- it is half: x ≤ 2 · halved x + 2 and 2 · halved x ≤ x + 1, here with 2^32 more on each side
 raised_lowered : (v : ℕ) → raised (sub_ℕ v (2 ^ 30)) ≡ v + 2 ^ 30
@@ -93,12 +85,8 @@ module _ (old new : List ℤ) where
     into_turn {z} h k f g ez =
         let there : i < length (map halved old) = rw (length-map old halved) h in
         let y : to_z w32 (of_z w32 z) ≡ get_or (map halved old) i (halved (pos 0))
-        = to_z-of_z w32 z g ∙ ez ∙ ap halved (to_z-of_z w32 (get_or old i (pos 0)) f) ∙ sym (get_or-map halved old i (pos 0)) in
+        = to_z-of_z g ∙ ez ∙ ap halved (to_z-of_z f) ∙ sym (get_or-map halved old i (pos 0)) in
         ap₂ (λ (l : List ℤ) (v : ℤ). set l i v) (e ∙ pasted i) y
         ∙ ap (λ (n : ℕ). set (paste new 0 (map halved old) i) n (get_or (map halved old) i (halved (pos 0)))) (sym (zero-add i))
         ∙ paste-suc new 0 (map halved old) i (halved (pos 0)) (omega arith) there
         ∙ sym (pasted (suc i)) ∙ ap (so_far old new) (sym (add-one i))
-
-    pub into_done : i ≡ min (length old) (length new) → s ≡ halved_into old new
-    unfolding halved_into
-    into_done m = e ∙ ap (so_far old new) m

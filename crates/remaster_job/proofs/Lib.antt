@@ -1,3 +1,2 @@
--- What the proofs share: half of a sample, samples halved one by one, and the report out of its parts.
+-- What the proofs share: half of a sample, and samples halved one by one.
 pub mod Halves
-pub mod Stages

@@ -63,10 +63,9 @@ pub struct Report {
 fn spec_of(h: Header) -> PcmSpec
     ensures { result ≡ spec_of h }
 {
-    let depth = h.depth;
     PcmSpec {
         channels: h.channels,
-        bits_per_sample: depth.bits(),
+        bits_per_sample: h.depth.bits(),
         sample_rate: h.rate,
     }
 }
@@ -75,8 +74,7 @@ fn spec_of(h: Header) -> PcmSpec
 fn is_itself(file: &[u8], written: &[u8]) -> bool
     ensures { result ≡ is_itself file.now written.now }
 {
-    let count = same_bytes(file, written, 0, file.len());
-    count.same == count.all
+    same_bytes(file, written, 0, file.len()).are_same()
 }
 
 // Re-encodes the file's own samples: a template with all that the samples leave open restores the file.
@@ -97,13 +95,12 @@ fn restore(file: &[u8], p: PcmSpec, own: &[i32], template: &[u8], out: &mut [u8]
 fn kept_in(file: &[u8], written: &[u8], h: Header) -> Kept
     ensures { result ≡ kept_of h file.now written.now }
 {
-    let depth = h.depth;
     let start = h.start as usize;
     let end = start + h.size as usize;
     Kept {
         all: same_bytes(file, written, 0, file.len()),
         before: same_bytes(file, written, 0, start),
-        headers: same_headers(file, written, depth.bits(), start, block_count(h)),
+        headers: same_headers(file, written, h.depth.bits(), start, block_count(h)),
         behind: same_bytes(file, written, end, file.len()),
     }
 }
@@ -122,11 +119,10 @@ fn read_back(
         written.now room.old again.old }
 {
     let decoded = decode_samples(written, room);
-    let samples: &[i32] = room;
     ReadBack {
         opened: open(written),
         decoded,
-        halves: same_samples(halves, samples, halves.len()),
+        halves: same_samples(halves, room, halves.len()),
         restored: restore(file, p, own, written, again),
     }
 }

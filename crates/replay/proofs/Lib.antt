@@ -1,2 +1,2 @@
--- what is kept of a room
-pub mod Keeping
+-- which questions read and which write, by their numbers
+pub mod Numbers

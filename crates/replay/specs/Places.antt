@@ -1,7 +1,9 @@
 -- Where the list stands: at its start, and after a question.
-use Rattle.std.specs.Prelude.{ℕ, false, cond, ◌&&◌, ◌==◌, nat_le}
+use Rattle.std.specs.Prelude.{ℕ, Bool, true, false, cond}
 use Rattle.format.specs.declared.settings.PcmSpec.{PcmSpec}
 use Rattle.replay_list.specs.declared.answers.Verdict.{Verdict}
+use Rattle.replay_list.specs.declared.kinds.Kind.{Kind}
+use Rattle.replay_list.specs.declared.kinds.Kind.TheVariants.{Decode, Encode, Reencode, Peaks}
 use Rattle.replay.specs.declared.items.Place.{Place}
 
 -- a place that no room reaches
@@ -27,28 +29,25 @@ start_of = record {
 abbrev pub spec_of : Place → PcmSpec
 spec_of place = record { channels = place.channels; bits_per_sample = place.depth; sample_rate = place.rate }
 
--- the kinds of four questions in the list: decoding, encoding, re-encoding, building a summary of peaks
-abbrev pub decode : ℕ
-decode = 17
+-- the questions that read so many bytes, or build a summary of so many where these are read; and those that write them
+abbrev pub is_read : Kind → Bool
+is_read Decode = true
+is_read Peaks = true
+is_read kind = false
 
-abbrev pub encode : ℕ
-encode = 19
+abbrev pub is_written : Kind → Bool
+is_written Encode = true
+is_written Reencode = true
+is_written kind = false
 
-abbrev pub reencode : ℕ
-reencode = 20
-
-abbrev pub peaks : ℕ
-peaks = 22
-
--- after a question of that kind: decoding read so many bytes, or a summary of so many was built where they are read,
--- and encoding or re-encoding wrote them; nothing is false on purpose any more
-unfoldable pub place_after : ℕ → Place → Verdict → Place
+-- after a question: what was read, built or written can be kept, and nothing is false on purpose any more
+unfoldable pub place_after : Kind → Place → Verdict → Place
 place_after kind place verdict = record {
   items = place.items;
   file = place.file;
   samples = place.samples;
-  read = cond (kind == decode) verdict.length (cond (kind == peaks) verdict.length place.read);
-  written = cond (nat_le encode kind && nat_le kind reencode) verdict.length place.written;
+  read = cond (is_read kind) verdict.length place.read;
+  written = cond (is_written kind) verdict.length place.written;
   channels = place.channels;
   depth = place.depth;
   rate = place.rate;

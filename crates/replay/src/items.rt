@@ -1,12 +1,11 @@
 // What the list puts into the two spaces, and where it stands.
-ghost use Rattle.std.specs.Prelude.{◌≡◌, ◌≤◌, min, length, take};
+ghost use Rattle.std.specs.Prelude.{◌≡◌, take};
 ghost use Rattle.replay.specs.Places.{start_of};
 ghost use Rattle.replay.specs.Spaces.{kept};
 
-use replay_list::{SPACE, kinds, read_drawn, read_u16, read_u32};
+use replay_list::{Kind, MOST_SAMPLES, SPACE, read_drawn, read_u16, read_u32};
 use std::io;
 use std::io::Read;
-use std::num::wrapping_add_u64;
 
 // How many items were read. How many bytes of their spaces the file and the samples are, and how many were read or
 // built, and written, last; the settings; whether the next answer is false on purpose, and where its room is changed on
@@ -46,12 +45,22 @@ pub fn start() -> Place
     }
 }
 
-// n, or the length of the space where that is less.
-pub fn part(space: &[u8], n: usize) -> usize
-    ensures is { result ≡ min n (length space.now) }
-    ensures counts { (result ≤ length space.now) × (result ≡ length (take result space.now)) }
+// The two spaces, which hold the file and the samples; and the room that a question is lent: for samples, for the bytes
+// that are read or built, and for those that are written.
+#[derive(Drop)]
+pub struct Spaces {
+    pub file: [u8; SPACE],
+    pub samples: [u8; SPACE],
+    pub words: [i32; MOST_SAMPLES],
+    pub read: [u8; SPACE],
+    pub written: [u8; SPACE],
+}
+
+// The first n bytes of the space, or all where there are fewer.
+pub fn part(space: &[u8], n: usize) -> &[u8]
+    ensures { result.now ≡ take n space.now }
 {
-    if n < space.len() { n } else { space.len() }
+    &space[..n.min(space.len())]
 }
 
 // Puts bytes into the space: where to, how many and which the list says.
@@ -71,63 +80,34 @@ fn draw<R: Read>(list: &mut R, space: &mut [u8]) -> io::Result<()> {
 }
 
 // Keeps the first n bytes of the room at the start of the space.
+#[tactic(auto, unfolding(crate::specs::Spaces::kept))]
 fn keep(space: &mut [u8], room: &[u8], n: usize)
     ensures { space.new ≡ kept space.old room.now n }
 {
-    let n = part(room, n);
-    if n <= space.len() {
-        le_bytes::copy(space, &room[..n]);
+    let run = part(room, n);
+    if run.len() <= space.len() {
+        le_bytes::copy(space, run);
     }
-}
-
-// What an item that is no question changes in the spaces.
-fn put_item<R: Read>(
-    list: &mut R,
-    kind: u32,
-    place: Place,
-    file: &mut [u8],
-    samples: &mut [u8],
-    read: &[u8],
-    written: &[u8],
-) -> io::Result<()> {
-    match kind {
-        kinds::PUT_FILE => put(list, file)?,
-        kinds::PUT_SAMPLES => put(list, samples)?,
-        kinds::DRAW_FILE => draw(list, file)?,
-        kinds::DRAW_SAMPLES => draw(list, samples)?,
-        kinds::KEEP_WRITTEN => keep(file, written, place.written),
-        kinds::KEEP_READ => keep(samples, read, place.read),
-        _ => {}
-    }
-    Ok(())
 }
 
 // Where the list stands after an item that is no question.
-fn place_after<R: Read>(list: &mut R, kind: u32, place: Place) -> io::Result<Place> {
-    let mut after = place;
-    after.items = wrapping_add_u64(place.items, 1);
+fn place_after<R: Read>(list: &mut R, kind: Kind, place: Place) -> io::Result<Place> {
+    let mut after = Place {
+        items: place.items.wrapping_add(1),
+        ..place
+    };
     match kind {
-        kinds::FILE_LENGTH => {
-            after.file = read_u16(list)? as usize;
-        }
-        kinds::SAMPLES_LENGTH => {
-            after.samples = read_u16(list)? as usize;
-        }
-        kinds::KEEP_WRITTEN => {
-            after.file = place.written;
-        }
-        kinds::KEEP_READ => {
-            after.samples = place.read;
-        }
-        kinds::SETTINGS => {
+        Kind::FileLength => after.file = read_u16(list)? as usize,
+        Kind::SamplesLength => after.samples = read_u16(list)? as usize,
+        Kind::KeepWritten => after.file = place.written,
+        Kind::KeepRead => after.samples = place.read,
+        Kind::Settings => {
             after.channels = read_u16(list)?;
             after.depth = read_u16(list)?;
             after.rate = read_u32(list)?;
         }
-        kinds::FALSE_ANSWER => {
-            after.is_false = true;
-        }
-        kinds::SPOILED_ROOM => {
+        Kind::FalseAnswer => after.is_false = true,
+        Kind::SpoiledRoom => {
             after.is_false = true;
             after.spoiled = read_u16(list)? as usize;
         }
@@ -136,16 +116,36 @@ fn place_after<R: Read>(list: &mut R, kind: u32, place: Place) -> io::Result<Pla
     Ok(after)
 }
 
-// Does what an item says that is no question, and answers where the list then stands. A question is only counted.
-pub fn follow<R: Read>(
-    list: &mut R,
-    kind: u32,
-    place: Place,
-    file: &mut [u8; SPACE],
-    samples: &mut [u8; SPACE],
-    read: &[u8; SPACE],
-    written: &[u8; SPACE],
-) -> io::Result<Place> {
-    put_item(list, kind, place, file, samples, read, written)?;
-    place_after(list, kind, place)
+impl Spaces {
+    // Before the first item.
+    pub fn new() -> Spaces {
+        Spaces {
+            file: [0; SPACE],
+            samples: [0; SPACE],
+            words: [0; MOST_SAMPLES],
+            read: [0; SPACE],
+            written: [0; SPACE],
+        }
+    }
+
+    // What an item that is no question changes in the spaces.
+    fn put_item<R: Read>(&mut self, list: &mut R, kind: Kind, place: Place) -> io::Result<()> {
+        match kind {
+            Kind::PutFile => put(list, &mut self.file)?,
+            Kind::PutSamples => put(list, &mut self.samples)?,
+            Kind::DrawFile => draw(list, &mut self.file)?,
+            Kind::DrawSamples => draw(list, &mut self.samples)?,
+            Kind::KeepWritten => keep(&mut self.file, &self.written, place.written),
+            Kind::KeepRead => keep(&mut self.samples, &self.read, place.read),
+            _ => {}
+        }
+        Ok(())
+    }
+
+    // Does what an item says that is no question, and answers where the list then stands. A question, or a kind that is
+    // not known, is only counted.
+    pub fn follow<R: Read>(&mut self, list: &mut R, kind: Kind, place: Place) -> io::Result<Place> {
+        self.put_item(list, kind, place)?;
+        place_after(list, kind, place)
+    }
 }

@@ -1,5 +1,5 @@
--- Drawn numbers: a value by its cases, one number more, and a part of a space that is filled.
-use Rattle.std.proofs.Common.{◌≡◌, ℕ, suc, ◌+◌, ◌*◌, ◌/◌, ◌%◌, ◌^◌, ◌<◌, ◌≤◌, true, false, List, ◌++◌, length, take, drop, sym, ap, ◌∙◌, add-one, arith, length-append, length-drop, take-append-drop, length-take-le, eq-eqb, ne_eqb, le-leb}
+-- Drawn numbers: one number more, and a part of a space that is filled.
+use Rattle.std.proofs.Common.{refl, ◌≡◌, ℕ, suc, ◌+◌, ◌*◌, ◌/◌, ◌<◌, ◌≤◌, List, ◌++◌, length, take, drop, sym, ap, ◌∙◌, add-one, arith, length-append, length-drop, take-append-drop, length-take-le, le-leb}
 use lib.Seq.{sets, sets-eq}
 use borrow.Author.Tests.{lt-leb}
 use Rattle.format.specs.Lists.{joined, over}
@@ -8,32 +8,7 @@ use Rattle.laws.proofs.Parts.{length_even}
 use Rattle.laws.proofs.Digits.{length_le}
 use Rattle.laws.proofs.Over.{sets_join, over_sets, over_none, lent_behind}
 use Rattle.replay_list.specs.declared.drawing.Drawn.{Drawn}
-use Rattle.replay_list.specs.Drawn.{next_of, state_at, value_of, number_of, number_at, drawn, drawn_into}
-
--- ---- a value
-
-module _ (d : Drawn) (x : ℕ) where
-  pub lowest_value : d.range ≡ 0 → d.low ≡ value_of d x
-  unfolding value_of
-  lowest_value e = rw (eq-eqb d.range 0 e)
-
-  module _ (v : ℕ) (some : d.range ≡ 0 → ⊥) (e : v ≡ (d.low + x % d.range) % 2 ^ 32) where
-    pub once : d.is_doubled ≡ false → v ≡ value_of d x
-    unfolding value_of
-    once f = rw (ne_eqb d.range 0 some, f) (omega arith)
-
-    pub twice : (w : ℕ) → w ≡ (v + x % d.range) % 2 ^ 32 → d.is_doubled ≡ true → w ≡ value_of d x
-    unfolding value_of
-    twice w p f = rw (ne_eqb d.range 0 some, f) (omega arith)
-
-  module _ (before v : ℕ) (e : v ≡ value_of d x) where
-    pub in_steps_lem : (w : ℕ) → w ≡ (before + v) % 2 ^ 32 → d.in_steps ≡ true → w ≡ number_of d before x
-    unfolding number_of value_of
-    in_steps_lem w p f = rw f (p ∙ ap (λ (k : ℕ). (before + k) % 2 ^ 32) e)
-
-    pub by_itself : d.in_steps ≡ false → v ≡ number_of d before x
-    unfolding number_of value_of
-    by_itself f = rw f e
+use Rattle.replay_list.specs.Drawn.{next_of, state_at, number_of, number_at, drawn, drawn_into}
 
 -- ---- the front of a list, and what is put behind it
 
@@ -53,6 +28,14 @@ module _ (d : Drawn) where
   length_drawn : (n : ℕ) → length (drawn d n) ≡ 4 * n
   unfolding drawn
   length_drawn n = length_even (λ k. le 4 (number_at d (suc k))) 4 (λ k. length_le 4 (number_at d (suc k))) n
+
+  pub state_none : d.seed ≡ state_at d 0
+  unfolding state_at
+  state_none = refl
+
+  pub number_none : 0 ≡ number_at d 0
+  unfolding number_at
+  number_none = refl
 
   pub state_turn : (i : ℕ) {x y : ℕ} → x ≡ state_at d i → y ≡ next_of x → y ≡ state_at d (i + 1)
   unfolding state_at
@@ -94,3 +77,7 @@ module _ (d : Drawn) where
         let many : length (take k (drop at s)) / 4 ≡ n = omega arith in
         let long : length g ≡ k = omega (arith, length_drawn n) in
         rw (le-leb (at + 4 * n) (length s) h, y, many) (lent_behind (take at s) g s s at k front long (front_over at s front) ∙ behind_front at g s front (omega arith))
+
+pub ruleset one_by_one = (state_none, number_none, state_turn, number_turn, none_drawn, drawn_turn)
+
+pub ruleset in_a_space = (not_within, part_drawn)

@@ -1,15 +1,13 @@
 -- The room: samples that are compared by their 32 bits, and a turn of each loop over them.
 use Rattle.std.proofs.Common.{◌≡◌, ℕ, ◌+◌, ◌*◌, ◌%◌, ◌^◌, ◌<◌, ◌≤◌, Bool, true, false, List, [], ◌∷◌, ◌++◌, length, get_or, take, drop, set, ℤ, pos, sym, refl, ap, ◌∙◌, add-one, arith, drop_of_length-le, get_or-set_other, take-suc, get_or-set_same, w32, to_z, of_z, eq-eqb}
 use native.Mathlib.Decide.{ℕ_discrete}
-use lib.Seq.{set_out}
 use lib.Signed.{mag}
 use mir.ValLaws.{to_z-of_z}
 use Rattle.format.specs.Numbers.{code_of}
 use Rattle.sample.specs.Equal.{equal_samples}
-use Rattle.sample.proofs.Words.{given}
 use Rattle.sample.proofs.Equals.{sample_equal, equal_bits}
 use Rattle.laws.proofs.Parts.{left_now, is_tab}
-use Rattle.replay_list.specs.Room.{mark_of, marked, are_marks, is_kept, summed, sum_from, sum_of, other_than, spoiled_at}
+use Rattle.replay_list.specs.Room.{mark_of, marked, are_marks, is_kept, summed, sum_from, sum_of}
 
 -- ---- samples compared by their bits
 
@@ -49,35 +47,30 @@ unfolding sum_from
 sum_more sum [] x = refl
 sum_more sum (y ∷ ys) x = sum_more (summed sum y) ys x
 
-pub sum_none : (s : List ℤ) → 0 ≡ sum_of (take 0 s)
+pub sum_none : 0 ≡ sum_of []
 unfolding sum_from
-sum_none s = refl
+sum_none = refl
 
-pub sum_turn : (s : List ℤ) (i : ℕ) {sum bits : ℕ} {x : ℤ} → i < length s → mag x < 2 ^ 31 → x ≡ get_or s i (pos 0)
-    → bits ≡ code_of 32 (to_z w32 (of_z w32 x)) → sum ≡ sum_of (take i s) → (sum * 1000003 + bits) % 4294967291 ≡ sum_of (take (i + 1) s)
-sum_turn s i {sum} {bits} {x} h f p q r =
+pub sum_turn : (s : List ℤ) (i : ℕ) {sum bits : ℕ} {x : ℤ} → bits ≡ code_of 32 (to_z w32 (of_z w32 x)) → x ≡ get_or s i (pos 0) → mag x < 2 ^ 31
+    → i < length s → sum ≡ sum_of (take i s) → (sum * 1000003 + bits) % 4294967291 ≡ sum_of (take (i + 1) s)
+sum_turn s i {sum} {bits} {x} q p f h r =
     let b : bits ≡ code_of 32 (get_or s i (pos 0)) = q ∙ ap (code_of 32) (to_z-of_z w32 x (record { sfits = f }) ∙ p) in
     rw (r, b, add-one i, take-suc s i (pos 0) h) (sym (sum_more 0 (take i s) (get_or s i (pos 0))))
 
--- ---- filling, and changing one
+-- ---- filling
 
-module _ {x : ℤ} (f : mag x < 2 ^ 31) where
-  pub mark_turn : (l k : List ℤ) (i : ℕ) → i < length l → x ≡ mark_of i → k ≡ set l i (to_z w32 (of_z w32 x)) → ((j : ℕ) → j < i → get_or l j (pos 0) ≡ mark_of j)
-      → (j : ℕ) → j < i + 1 → get_or k j (pos 0) ≡ mark_of j
-  mark_turn l k i h e q each j b =
-      rw (q, to_z-of_z w32 x (record { sfits = f }))
-      (elim (ℕ_discrete j i) [
-        | yes p ↦ rw p (get_or-set_same l i x (pos 0) h ∙ e)
-        | no p ↦ get_or-set_other l i j x (pos 0) p ∙ each j (omega arith)
-      ])
-
-  pub one_spoiled : (s l : List ℤ) (place : ℕ) {y : ℤ} → mag y < 2 ^ 31 → x ≡ get_or s place (pos 0) → y ≡ other_than (to_z w32 (of_z w32 x)) → l ≡ set s place (to_z w32 (of_z w32 y)) → l ≡ spoiled_at place s
-  one_spoiled s l place {y} g p q e =
-      let v : to_z w32 (of_z w32 y) ≡ other_than (get_or s place (pos 0)) = given g (q ∙ ap other_than (given f p)) in
-      e ∙ ap (set s place) v
+pub mark_turn : {x : ℤ} → mag x < 2 ^ 31 → (l k : List ℤ) (i : ℕ) → i < length l → x ≡ mark_of i → k ≡ set l i (to_z w32 (of_z w32 x)) → ((j : ℕ) → j < i → get_or l j (pos 0) ≡ mark_of j)
+    → (j : ℕ) → j < i + 1 → get_or k j (pos 0) ≡ mark_of j
+mark_turn {x} f l k i h e q each j b =
+    rw (q, to_z-of_z w32 x (record { sfits = f }))
+    (elim (ℕ_discrete j i) [
+      | yes p ↦ rw p (get_or-set_same l i x (pos 0) h ∙ e)
+      | no p ↦ get_or-set_other l i j x (pos 0) p ∙ each j (omega arith)
+    ])
 
 pub all_marked : (l : List ℤ) (n : ℕ) → length l ≡ n → ((j : ℕ) → j < n → get_or l j (pos 0) ≡ mark_of j) → l ≡ marked n
 all_marked l n e each = sym (is_tab (pos 0) n mark_of l e each)
 
-pub none_there : (s : List ℤ) (place : ℕ) → length s ≤ place → s ≡ spoiled_at place s
-none_there s place h = sym (set_out s place (other_than (get_or s place (pos 0))) h)
+pub ruleset marking = (mark_turn, all_marked)
+
+pub ruleset keeping = (kept_turn, kept_stop, kept_done)

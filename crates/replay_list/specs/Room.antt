@@ -1,5 +1,6 @@
 -- The room that is lent to a call, as a list of samples: what it is filled with before, what is asked of it after.
-use Rattle.std.specs.Prelude.{ℕ, suc, ◌+◌, ◌*◌, ◌%◌, Bool, true, ◌&&◌, List, [], ◌∷◌, drop, ℤ, pos, slice_index_or, slice_set}
+use Rattle.std.specs.Prelude.{ℕ, suc, ◌+◌, ◌*◌, ◌%◌, Bool, true, ◌&&◌, List, [], ◌∷◌, drop, ℤ, pos, slice_index_or}
+use Rattle.std.specs.Prelude.{slice_set}
 use Rattle.format.specs.Lists.{tab}
 use Rattle.format.specs.Numbers.{code_of, plus}
 use Rattle.sample.specs.Equal.{equal_samples}

@@ -1,19 +1,18 @@
 // What was recorded of an answer, and what the entries and the host boundary answered.
 ghost use Rattle.std.specs.Prelude.{◌≡◌};
-ghost use Rattle.format.specs.Numbers.{code_of};
-ghost use Rattle.lent_samples.specs.Lent.{lent_of};
-ghost use Rattle.replay_list.specs.Said.{said_length, told_by, said_refused, said_samples, said_outcome, said_by};
+ghost use Rattle.replay_list.specs.Said.{said_length, said_number, told_by, said_samples, said_outcome, said_by};
 ghost use Rattle.replay_list.specs.Said.{refusal_of, said_by_host, recorded_refusal, misfit_of, word_of};
 ghost use Rattle.replay_list.specs.Said.{is_said, words_in, is_recorded, verdict_of};
 
 use crate::room::{checksum, is_kept, room_length};
 use crate::{read_u8, read_u16, read_u32};
-use format::{Answer, Outcome, Refusal, Told};
-use lent_samples::Container;
+use format::{Answer, Outcome, Told};
+use lent_samples::Stored;
 use std::io;
 use std::io::Read;
 
-// The number of a call that was accepted.
+// Answers stand in the list by their numbers, and stay numbers here: a refusal's is that of the documents. This is the
+// number of a call that was accepted.
 pub const ACCEPTED: u32 = 0;
 
 // The number of a step of a walk that was done.
@@ -74,10 +73,11 @@ pub fn read_refusal<R: Read>(list: &mut R, number: u32) -> io::Result<Recorded> 
     if number == DONE {
         return Ok(refused(number, 0, 0, 0));
     }
-    let mut told: u16 = 0;
-    if number == BITS_WORD || number == WIDTH_TOO_SMALL {
-        told = read_u16(list)?;
-    }
+    let told = if number == BITS_WORD || number == WIDTH_TOO_SMALL {
+        read_u16(list)?
+    } else {
+        0
+    };
     let group = read_u16(list)?;
     let channel = read_u16(list)?;
     Ok(refused(number, told, group, channel))
@@ -114,6 +114,7 @@ fn misfit_of(want: Recorded) -> u16
 }
 
 // The word by which the host boundary is to tell what was recorded: 0 where the call was accepted.
+#[tactic(auto, unfolding(crate::specs::Said::word_of))]
 pub fn word_of(want: Recorded) -> u64
     ensures { result ≡ word_of want }
 {
@@ -132,30 +133,24 @@ pub struct Said {
     pub length: u64,
 }
 
-// The word's 16 bits.
-fn bits_word(bits: i16) -> u16
-    ensures { result ≡ code_of 16 bits }
-{
-    (sample::bits_of(bits as i32) % 65536) as u16
-}
-
 // What a refusal tells besides its number.
 fn told_by(told: Told) -> u16
     ensures { result ≡ told_by told }
 {
     match told {
-        Told::Bits(bits) => bits_word(bits),
+        Told::Bits(bits) => bits.cast_unsigned(),
         Told::Misfit(place) => place,
         Told::Nothing => 0,
     }
 }
 
-fn of_refusal(refusal: Refusal) -> Said
-    ensures { result ≡ said_refused refusal }
+// A number that is no length, and what it tells besides.
+fn of_number(number: u32, told: u16) -> Said
+    ensures { result ≡ said_number number told }
 {
     Said {
-        number: refusal.number(),
-        told: told_by(refusal.told()),
+        number,
+        told,
         group: 0,
         channel: 0,
         length: 0,
@@ -192,14 +187,8 @@ fn of_outcome(outcome: Outcome) -> Said
     match outcome {
         Outcome::Read(samples) => of_samples(samples.0),
         Outcome::Wrote(length) => accepted(length),
-        Outcome::Refused(r) => of_refusal(r),
-        Outcome::Finished => Said {
-            number: DONE,
-            told: 0,
-            group: 0,
-            channel: 0,
-            length: 0,
-        },
+        Outcome::Refused(r) => of_number(r.number(), told_by(r.told())),
+        Outcome::Finished => of_number(DONE, 0),
         Outcome::Opened(_) => accepted(u64::MAX),
         Outcome::Matches => accepted(1),
         Outcome::Differs => accepted(0),
@@ -210,26 +199,23 @@ fn of_outcome(outcome: Outcome) -> Said
 pub fn of_answer(answer: Answer) -> Said
     ensures { result ≡ said_by answer }
 {
-    let outcome = answer.outcome;
-    let mut said = of_outcome(outcome);
-    said.group = answer.group;
-    said.channel = answer.channel;
-    said
+    Said {
+        group: answer.group,
+        channel: answer.channel,
+        ..of_outcome(answer.outcome)
+    }
 }
 
 // From 2^32 on, a number that no refusal has.
 fn refusal_number(n: u64) -> u32
     ensures { result ≡ refusal_of n }
 {
-    if n < 0x1_0000_0000 {
-        n as u32
-    } else {
-        u32::MAX
-    }
+    u32::try_from(n).unwrap_or(u32::MAX)
 }
 
 // What the host boundary's number says. It tells nothing besides, and names no place: what was recorded is taken for
 // these, so that they are not compared.
+#[tactic(auto, unfolding(crate::specs::Said::said_by_host))]
 pub fn of_result(res: u64, want: Recorded) -> Said
     ensures { result ≡ said_by_host res want }
 {
@@ -237,52 +223,41 @@ pub fn of_result(res: u64, want: Recorded) -> Said
         return accepted(res);
     }
     Said {
-        number: refusal_number(res - 0x8000_0000_0000_0000),
-        told: want.told,
-        group: want.group as u32,
+        group: u32::from(want.group),
         channel: want.channel,
-        length: 0,
+        ..of_number(refusal_number(res - 0x8000_0000_0000_0000), want.told)
     }
 }
 
 // Whether what was said was recorded.
+#[tactic(auto, unfolding(crate::specs::Said::is_said))]
 pub fn is_said(said: Said, want: Recorded) -> bool
     ensures { result ≡ is_said said want }
 {
-    let mut same = said.number == want.number;
-    same = same & (said.told == want.told);
-    same = same & (said.group == want.group as u32);
-    same = same & (said.channel == want.channel);
-    same & (said.length == want.length)
+    said.number == want.number
+        && said.told == want.told
+        && said.group == u32::from(want.group)
+        && said.channel == want.channel
+        && said.length == want.length
 }
 
 // How many words of 4 bytes hold so many bytes.
+#[tactic(auto, unfolding(crate::specs::Said::words_in))]
 fn words_in(length: u64) -> usize
     ensures { result ≡ words_in length }
 {
-    (length / 4 + (length % 4 + 3) / 4) as usize
+    length.div_ceil(4) as usize
 }
 
 // Whether that was recorded: what was said, what the room holds of it by its sum, and behind it what the room was
 // filled with. In a last word that is not wholly written, what it was filled with is summed with it.
-pub fn is_recorded(
-    said: Said,
-    want: Recorded,
-    which: Container,
-    words: &[i32],
-    bytes: &[u8],
-) -> bool
-    ensures { result ≡ is_recorded said want (lent_of which words.now bytes.now) }
+#[tactic(auto, unfolding(crate::specs::Said::is_recorded))]
+pub fn is_recorded<E: Stored>(said: Said, want: Recorded, room: &[E]) -> bool
+    ensures { result ≡ is_recorded said want (E.samples room.now) }
 {
-    if is_said(said, want) {} else {
-        return false;
-    }
     let n = words_in(want.length);
-    if room_length(which, words, bytes) < n {
-        return false;
-    }
-    if checksum(which, words, bytes, n) != want.sum {
-        return false;
-    }
-    is_kept(which, words, bytes, n)
+    is_said(said, want)
+        && n <= room_length(room)
+        && checksum(room, n) == want.sum
+        && is_kept(room, n)
 }

@@ -4,19 +4,20 @@ ghost use Rattle.replay_list.specs.Bytes.{marked_bytes, spoiled_bytes, is_answer
 
 use crate::answers::{Recorded, Said, is_recorded};
 use crate::room::{fill, spoil};
-use lent_samples::Container;
 
 // Fills the room before it is lent to a call.
+#[tactic(auto, using(crate::proofs::Wholes::filled_bytes))]
 pub fn fill_bytes(room: &mut [u8])
     ensures { room.new ≡ marked_bytes room.old }
 {
-    fill(Container::Bytes, &mut [], room);
+    fill(room);
 }
 
+#[tactic(auto, using(crate::proofs::Wholes::spoilt_bytes))]
 fn spoil_bytes(room: &mut [u8], at: usize)
     ensures { room.new ≡ spoiled_bytes at room.old }
 {
-    spoil(Container::Bytes, &mut [], room, at);
+    spoil(room, at);
 }
 
 // Whether a call answered as recorded, by what it said and what it wrote. The room is changed before at `spoiled`,
@@ -26,5 +27,5 @@ pub fn is_answered(said: Said, spoiled: usize, room: &mut [u8], want: Recorded) 
     ensures leaves { room.new ≡ spoiled_bytes spoiled room.old }
 {
     spoil_bytes(room, spoiled);
-    is_recorded(said, want, Container::Bytes, &[], room)
+    is_recorded(said, want, room)
 }

@@ -8,7 +8,6 @@ use crate::{read_u8, read_u32};
 use le_bytes::put_u32_le;
 use std::io;
 use std::io::Read;
-use std::num::wrapping_add_u32;
 
 // From which x to start, and how to make a number of each x.
 #[derive(Clone, Copy)]
@@ -41,58 +40,55 @@ fn next(x: u32) -> u32
     (x as u64 * 48271 % 2147483647) as u32
 }
 
+#[tactic(auto, unfolding(crate::specs::Drawn::value_of))]
 fn value(x: u32, d: Drawn) -> u32
     ensures { result ≡ value_of d x }
 {
-    let range = d.range;
-    if range == 0 {
+    if d.range == 0 {
         return d.low;
     }
-    let rest = x % range;
-    let value = wrapping_add_u32(d.low, rest);
+    let rest = x % d.range;
+    let value = d.low.wrapping_add(rest);
     if d.is_doubled {
-        wrapping_add_u32(value, rest)
+        value.wrapping_add(rest)
     } else {
         value
     }
 }
 
 // In steps each number is the one before plus its value.
+#[tactic(auto, unfolding(crate::specs::Drawn::number_of))]
 fn number_after(before: u32, x: u32, d: Drawn) -> u32
     ensures { result ≡ number_of d before x }
 {
+    let value = value(x, d);
     if d.in_steps {
-        wrapping_add_u32(before, value(x, d))
+        before.wrapping_add(value)
     } else {
-        value(x, d)
+        value
     }
 }
 
 // As many numbers as the part holds, 4 bytes each.
+#[tactic(auto, using(crate::proofs::Draws::one_by_one))]
 fn fill(part: &mut [u8], d: Drawn)
     ensures { part.new ≡ over (drawn d (length part.old / 4)) part.old }
 {
-    let n = part.len() / 4;
     let mut x = d.seed;
     let mut number: u32 = 0;
-    let mut i: usize = 0;
-    while i < n {
+    for i in 0..part.len() / 4 {
         x = next(x);
         number = number_after(number, x, d);
         put_u32_le(part, 4 * i, number);
-        i += 1;
     }
 }
 
 // Puts n drawn numbers, 4 bytes each, into the space that is lent, from `at` on, where they lie within it.
+#[tactic(auto, using(crate::proofs::Draws::in_a_space))]
 pub fn draw(space: &mut [u8], at: usize, n: usize, d: Drawn)
     ensures { space.new ≡ drawn_into d at n space.old }
 {
-    if space.len() < at {
-        return;
+    if at <= space.len() && n <= (space.len() - at) / 4 {
+        fill(&mut space[at..at + 4 * n], d);
     }
-    if (space.len() - at) / 4 < n {
-        return;
-    }
-    fill(&mut space[at..at + 4 * n], d);
 }

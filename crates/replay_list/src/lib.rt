@@ -5,10 +5,8 @@
 mod answers;
 mod bytes;
 mod drawing;
-pub mod kinds;
+mod kinds;
 mod room;
-
-ghost use Rattle.std.specs.Prelude.{◌≡◌};
 
 pub use answers::{
     ACCEPTED, DONE, Recorded, Said, Verdict, is_recorded, is_said, judged, of_answer, of_result,
@@ -17,6 +15,7 @@ pub use answers::{
 pub use bytes::{fill_bytes, is_answered};
 pub use drawing::{Drawn, draw, read_drawn};
 use intake::read_full;
+pub use kinds::Kind;
 use le_bytes::{read_u16_le, read_u32_le};
 pub use room::{fill, room_length, spoil};
 use std::io;
@@ -27,17 +26,11 @@ pub const SPACE: usize = 16384;
 
 pub const MOST_SAMPLES: usize = SPACE / 4;
 
-fn wide(x: u8) -> u32
-    ensures { result ≡ x }
-{
-    x as u32
-}
-
 // The list's next byte.
 pub fn read_u8<R: Read>(list: &mut R) -> io::Result<u32> {
     let mut bytes = [0u8; 1];
     read_full(list, &mut bytes)?;
-    Ok(wide(bytes[0]))
+    Ok(u32::from(bytes[0]))
 }
 
 // The number that the list's next 2 bytes are, the lowest first.
@@ -56,12 +49,8 @@ pub fn read_u32<R: Read>(list: &mut R) -> io::Result<u32> {
 
 // Puts the list's next n bytes into the space that is lent, from `at` on, where they lie within it.
 pub fn put<R: Read>(list: &mut R, space: &mut [u8], at: usize, n: usize) -> io::Result<()> {
-    if space.len() < at {
-        return Ok(());
+    if at <= space.len() && n <= space.len() - at {
+        read_full(list, &mut space[at..at + n])?;
     }
-    if space.len() - at < n {
-        return Ok(());
-    }
-    read_full(list, &mut space[at..at + n])?;
     Ok(())
 }

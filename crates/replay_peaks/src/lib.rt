@@ -43,7 +43,7 @@ fn judge_build(file: &[u8], spoiled: usize, room: &mut [u8], want: Recorded) -> 
 {
     let by_entry = build_by_entry(file, spoiled, room, want);
     let by_host = build_by_host(file, spoiled, room, want);
-    judged(by_entry & by_host, want)
+    judged(by_entry && by_host, want)
 }
 
 // Builds the file's summary, and compares with what the list says next. The room is changed on purpose at its word
@@ -81,7 +81,7 @@ fn judge_check(summary: &[u8], file: &[u8], want: Recorded) -> Verdict
 {
     let by_entry = compare_by_entry(summary, file, want);
     let by_host = compare_by_host(summary, file, want);
-    judged(by_entry & by_host, want)
+    judged(by_entry && by_host, want)
 }
 
 // Checks the summary against the file, and compares with what the list says next.

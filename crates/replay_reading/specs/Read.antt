@@ -4,7 +4,8 @@ use Rattle.std.specs.Prelude.{ℕ, Bool, true, ◌&&◌, List, length, ℤ, eqb}
 use Rattle.format.specs.Decoding.{decode_of, decode_into}
 use Rattle.format.specs.FewFrames.{read_frames_of, read_frames_into}
 use Rattle.format.specs.Peaks.{read_peak_of, read_peak_into, read_peaks_of, read_peaks_into}
-use Rattle.format.specs.Boundary.{host_decode, host_decode_into, host_decode_refusal, host_read_frames, host_read_frames_into}
+use Rattle.format.specs.Boundary.{host_decode, host_decode_into, host_decode_refusal, host_read_frames}
+use Rattle.format.specs.Boundary.{host_read_frames_into}
 use Rattle.format.specs.Boundary.{host_peak, host_peak_into, host_peaks_all, host_peaks_all_into}
 use Rattle.replay_list.specs.Room.{marked, spoiled_at}
 use Rattle.replay_list.specs.Said.{said_by, said_by_host, word_of, is_recorded}

@@ -11,7 +11,6 @@ ghost use Rattle.replay_reading.specs.Read.{entry_reads, left_by_entry, host_rea
 ghost use Rattle.replay_reading.specs.Stepped.{stepped_words, steps_to};
 
 use format::{Answer, Frames, Header, Outcome, SampleFormat};
-use lent_samples::Container;
 use replay_list::{
     ACCEPTED, Recorded, Said, Verdict, fill, fill_bytes, is_answered, is_recorded, is_said, judged,
     of_answer, of_result, read_recorded, read_refusal, read_u8, read_u16, read_u32, spoil, word_of,
@@ -20,7 +19,7 @@ use std::io;
 use std::io::Read;
 
 // What was recorded of a file that opens: its header's numbers.
-#[derive(Clone, Copy)]
+#[derive(Clone, Copy, PartialEq, Eq)]
 struct Opened {
     channels: u16,
     depth: u16,
@@ -74,50 +73,48 @@ fn number_of(format: SampleFormat) -> u32
 }
 
 // Whether every number of the header is the recorded one.
+#[tactic(auto, unfolding(crate::specs::Opened::is_header))]
 fn is_header(h: Header, want: Opened) -> bool
     ensures { result ≡ is_header h want }
 {
-    let depth = h.depth;
-    let format = h.format;
-    let mut same = h.channels == want.channels;
-    same = same & (h.rate == want.rate);
-    same = same & (h.frames.0 == want.frames);
-    same = same & (h.table == want.table);
-    same = same & (h.start == want.start);
-    same = same & (h.size == want.size);
-    same = same & (h.groups == want.groups);
-    same = same & (depth.bits() == want.depth);
-    same & (number_of(format) == want.format)
+    let read = Opened {
+        channels: h.channels,
+        depth: h.depth.bits(),
+        rate: h.rate,
+        frames: h.frames.0,
+        table: h.table,
+        start: h.start,
+        size: h.size,
+        groups: h.groups,
+        format: number_of(h.format),
+    };
+    read == want
 }
 
 // Whether the file opens, with that header.
 fn is_opened(answer: Answer, want: Opened) -> bool
     ensures { result ≡ is_opened answer.outcome want }
 {
-    let outcome = answer.outcome;
-    if let Outcome::Opened(h) = outcome {
-        is_header(h, want)
-    } else {
-        false
+    match answer.outcome {
+        Outcome::Opened(h) => is_header(h, want),
+        _ => false,
     }
 }
 
 // Whether the host boundary's number is what decoding would write: 4 bytes for each sample.
+#[tactic(auto, unfolding(crate::specs::Opened::is_length))]
 fn is_length(res: u64, want: Opened) -> bool
     ensures { result ≡ is_length res want }
 {
-    let samples = Frames(want.frames).samples(want.channels);
-    if res % 4 != 0 {
-        return false;
-    }
-    res / 4 == samples.0
+    res == 4 * Frames(want.frames).samples(want.channels).0
 }
 
 // Whether that refusal was said; the host boundary's number is 2^63 more than the refusal's.
+#[tactic(auto, unfolding(crate::specs::Opened::is_refused))]
 fn is_refused(said: Said, res: u64, want: Recorded) -> bool
     ensures { result ≡ is_refused said res want }
 {
-    is_said(said, want) & (res == 0x8000_0000_0000_0000 + want.number as u64)
+    is_said(said, want) && res == 0x8000_0000_0000_0000 + u64::from(want.number)
 }
 
 // Whether the entry and the host boundary both answer as recorded.
@@ -127,7 +124,7 @@ fn both_open(file: &[u8], want: RecordedOpening) -> bool
     let answer = opening::open(file);
     let result = ncw::ncw_open(file);
     match want {
-        RecordedOpening::Opens(header) => is_opened(answer, header) & is_length(result, header),
+        RecordedOpening::Opens(header) => is_opened(answer, header) && is_length(result, header),
         RecordedOpening::Refuses(refusal) => is_refused(of_answer(answer), result, refusal),
     }
 }
@@ -185,10 +182,10 @@ fn read_by_entry(way: Way, file: &[u8], spoiled: usize, room: &mut [i32], want: 
     ensures says { result ≡ entry_reads way file.now spoiled want room.old }
     ensures leaves { room.new ≡ left_by_entry way file.now spoiled room.old }
 {
-    fill(Container::Words, room, &mut []);
+    fill(room);
     let said = read_words(way, file, room);
-    spoil(Container::Words, room, &mut [], spoiled);
-    is_recorded(said, want, Container::Words, room, &[])
+    spoil(room, spoiled);
+    is_recorded(said, want, room)
 }
 
 // The host boundary reads into the room. What was recorded is taken for what it does not tell.
@@ -213,14 +210,8 @@ fn host_tells(way: Way, file: &[u8], room: u64, want: Recorded) -> bool
     ensures { result ≡ host_tells way file.now room want }
 {
     match way {
-        Way::Decode => {
-            let told = ncw::ncw_decode_refusal(file, room);
-            let recorded = word_of(want);
-            told == recorded
-        }
-        Way::Range(_, _) => true,
-        Way::Pair(_, _) => true,
-        Way::Pairs => true,
+        Way::Decode => ncw::ncw_decode_refusal(file, room) == word_of(want),
+        Way::Range(_, _) | Way::Pair(_, _) | Way::Pairs => true,
     }
 }
 
@@ -232,7 +223,7 @@ fn read_by_host(way: Way, file: &[u8], spoiled: usize, room: &mut [u8], want: Re
     let is_told = host_tells(way, file, room.len() as u64, want);
     fill_bytes(room);
     let said = read_bytes(way, file, room, want);
-    is_answered(said, spoiled, room, want) & is_told
+    is_answered(said, spoiled, room, want) && is_told
 }
 
 // Both are asked, each in a room of its own.
@@ -251,7 +242,7 @@ fn judge_read(
 {
     let by_entry = read_by_entry(way, file, spoiled, words, want);
     let by_host = read_by_host(way, file, spoiled, bytes, want);
-    judged(by_entry & by_host, want)
+    judged(by_entry && by_host, want)
 }
 
 // Decodes the file into each room, and compares with what the list says next. Both rooms are changed on purpose at
@@ -336,11 +327,11 @@ fn judge_step(
     ensures leaves { let before = room.old in
         room.new ≡ stepped_words file.now group spoiled before }
 {
-    fill(Container::Words, room, &mut []);
+    fill(room);
     let step = walk::step_at(file, group, room);
-    spoil(Container::Words, room, &mut [], spoiled);
-    let is_same = is_recorded(of_answer(step.answer), want, Container::Words, room, &[]);
-    judged(is_same & (step.next == next), want)
+    spoil(room, spoiled);
+    let is_same = is_recorded(of_answer(step.answer), want, room);
+    judged(is_same && step.next == next, want)
 }
 
 // One step of a walk that stands at `group`, compared with what the list says next. The room is changed on purpose at

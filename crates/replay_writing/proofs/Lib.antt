@@ -1,3 +1,2 @@
--- samples taken into a room; what is said and left, by the way of writing
+-- samples taken into a room
 pub mod Taking
-pub mod Asking

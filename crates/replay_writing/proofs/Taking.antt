@@ -1,11 +1,11 @@
 -- Samples put one by one to the front of a room, as many as it holds: w is the room before, d after i of them.
-use Prim.Native.Nat.{ℕ, suc, ◌+◌, ◌<◌, ◌≤◌}
-use mathlib.Core.Path.{◌≡◌, sym, ap, ◌∙◌}
+use Prim.Native.Nat.{ℕ, suc, ◌+◌, ◌<◌}
+use mathlib.Core.Path.{◌≡◌, sym, ◌∙◌}
 use mathlib.Core.List.{List, [], ◌∷◌, ◌++◌}
 use native.Mathlib.Numerals.{add-one}
 use native.Mathlib.Omega.{arith}
 use lib.ListN.{length, get_or, set, take, drop, length-append}
-use lib.Seq.{take-suc, take_all, drop-cons, set_at, take_at, append_snoc, length-take-le}
+use lib.Seq.{take-suc, drop-cons, set_at, take_at, append_snoc, length-take-le}
 use lib.IntN.{ℤ, pos}
 use Rattle.format.specs.Lists.{over}
 
@@ -18,16 +18,6 @@ module _ (xs w d : List ℤ) (i : ℕ) (so_far : d ≡ over (take i xs) w) where
       let all : take (i + 1) xs ≡ ys ++ (x ∷ []) = rw (add-one, e, take-suc xs i (pos 0) h) in
       let long : length (ys ++ (x ∷ [])) ≡ suc i = length-append ys (x ∷ []) ∙ omega arith in
       rw (so_far, all, n, long, drop-cons w i (pos 0) l, set_at ys (get_or w i (pos 0)) (drop (suc i) w) x i n) (sym (append_snoc ys x (drop (suc i) w)))
-
-  -- no sample is left
-  pub taken_all : length xs ≤ i → i ≤ length w → d ≡ over (take (length w) xs) w
-  taken_all h l = so_far ∙ ap (λ (ys : List ℤ). over ys w) (take_all i xs h ∙ sym (take_all (length w) xs (omega arith)))
-
-  -- no room is left
-  pub taken_full : i ≤ length w → length w ≤ i → d ≡ over (take (length w) xs) w
-  taken_full h l =
-      let e : i ≡ length w = omega arith in
-      so_far ∙ ap (λ (k : ℕ). over (take k xs) w) e
 
 -- what was put to the front of a room is its front
 pub taken_front : (xs w d : List ℤ) (n : ℕ) → n ≡ length xs → d ≡ over xs w → take n d ≡ xs

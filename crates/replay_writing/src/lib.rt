@@ -10,7 +10,7 @@ ghost use Rattle.replay_writing.specs.Written.{entry_writes, left_by_entry, host
 ghost use Rattle.replay_writing.specs.Written.{both_write, left_by_both};
 
 use format::PcmSpec;
-use lent_samples::Container;
+use lent_samples::Stored;
 use replay_list::{
     MOST_SAMPLES, Recorded, Said, Verdict, fill_bytes, is_answered, judged, of_answer, of_result,
     read_recorded, room_length, word_of,
@@ -29,21 +29,17 @@ enum Way {
 const MODES: u32 = 3;
 
 // Takes the samples that the bytes are, as many as there is room for, and says how many.
+#[tactic(auto, using(crate::proofs::Taking::taken_more), unfolding(format::specs::Lists::over))]
 fn take_samples(bytes: &[u8], words: &mut [i32]) -> usize
     ensures takes { let samples = taken (length words.old) bytes.now in
         (result ≡ length samples) × (words.new ≡ over samples words.old) }
     ensures counts { (result ≤ length words.new) × (result ≡ length (take result words.new)) }
 {
-    let n = room_length(Container::Bytes, &[], bytes);
-    let mut i: usize = 0;
-    while i < words.len() {
-        if n <= i {
-            return i;
-        }
-        words[i] = lent_samples::sample_at(Container::Bytes, &[], bytes, i);
-        i += 1;
+    let n = room_length(bytes).min(words.len());
+    for i in 0..n {
+        words[i] = u8::sample_at(bytes, i);
     }
-    i
+    n
 }
 
 // An entry takes whole samples, and a mode that there is: of anything else only the boundary is asked.
@@ -52,7 +48,7 @@ fn is_asked(way: Way, samples: &[u8]) -> bool
 {
     let is_whole = samples.len() % 4 == 0;
     match way {
-        Way::Encode(mode) => (mode < MODES) & is_whole,
+        Way::Encode(mode) => mode < MODES && is_whole,
         Way::Reencode => is_whole,
     }
 }
@@ -71,6 +67,7 @@ fn write_words(way: Way, samples: &[i32], p: PcmSpec, old: &[u8], room: &mut [u8
 }
 
 // Whether the entry answers as recorded; where it is not asked, that counts as recorded.
+#[tactic(auto, using(crate::proofs::Taking::taken_front))]
 fn write_by_entry(
     way: Way,
     samples: &[u8],
@@ -85,7 +82,7 @@ fn write_by_entry(
     ensures leaves { let before = room.old in
         room.new ≡ left_by_entry way p old.now samples.now spoiled before }
 {
-    if is_asked(way, samples) {} else {
+    if !is_asked(way, samples) {
         return true;
     }
     let mut words = [0i32; MOST_SAMPLES];
@@ -136,8 +133,7 @@ fn host_tells(way: Way, samples: &[u8], p: PcmSpec, old: &[u8], room: u64, want:
         Way::Encode(_) => true,
         Way::Reencode => {
             let told = ncw::ncw_reencode_refusal(samples, channels, depth, rate, old, room);
-            let recorded = word_of(want);
-            told == recorded
+            told == word_of(want)
         }
     }
 }
@@ -160,7 +156,7 @@ fn write_by_host(
     let is_told = host_tells(way, samples, p, old, room.len() as u64, want);
     fill_bytes(room);
     let said = write_bytes(way, samples, p, old, room, want);
-    is_answered(said, spoiled, room, want) & is_told
+    is_answered(said, spoiled, room, want) && is_told
 }
 
 // Both are asked, one after the other in one room.
@@ -180,7 +176,7 @@ fn judge(
 {
     let by_entry = write_by_entry(way, samples, p, old, spoiled, room, want);
     let by_host = write_by_host(way, samples, p, old, spoiled, room, want);
-    judged(by_entry & by_host, want)
+    judged(by_entry && by_host, want)
 }
 
 // Encodes the samples with the settings and the mode, and compares with what the list says next. The room is changed

@@ -12,23 +12,17 @@ pub fn print_number(rt: &impl Print, n: u64) -> io::Result<()> {
     rt.print(n)
 }
 
-// Prints the number in decimal, with its sign where it is negative.
-fn print_signed(rt: &impl Print, n: i16) -> io::Result<()> {
-    rt.print(n)
-}
-
 // Prints the name of the sample format.
 pub fn print_format(rt: &impl Print, format: SampleFormat) -> io::Result<()> {
     match format {
-        SampleFormat::Pcm => print(rt, b"pcm"),
-        SampleFormat::Float => print(rt, b"float"),
+        SampleFormat::Pcm => print!(rt; "pcm"),
+        SampleFormat::Float => print!(rt; "float"),
     }
 }
 
 // Prints the refusal's number: all that document 01's program prints of it.
 pub fn print_refusal(rt: &impl Print, r: Refusal) -> io::Result<()> {
-    print(rt, b"refused ")?;
-    print_number(rt, r.number() as u64)
+    print!(rt; "refused {}", r.number())
 }
 
 // Prints what a refusal tells besides: 4 the bits word that was read, 36 the place of the value or difference in its
@@ -36,32 +30,17 @@ pub fn print_refusal(rt: &impl Print, r: Refusal) -> io::Result<()> {
 fn print_told(rt: &impl Print, told: Told) -> io::Result<()> {
     match told {
         Told::Nothing => Ok(()),
-        Told::Bits(bits) => {
-            print(rt, b" ")?;
-            print_signed(rt, bits)
-        }
-        Told::Misfit(place) => {
-            print(rt, b" ")?;
-            print_number(rt, place as u64)
-        }
+        Told::Bits(bits) => print!(rt; " {bits}"),
+        Told::Misfit(place) => print!(rt; " {place}"),
     }
-}
-
-fn print_group(rt: &impl Print, group: u32) -> io::Result<()> {
-    print(rt, b", group ")?;
-    print_number(rt, group as u64)
 }
 
 // Prints the place that is named.
 fn print_place(rt: &impl Print, named: Named, place: Place) -> io::Result<()> {
     match named {
         Named::NoGroup => Ok(()),
-        Named::TheGroup => print_group(rt, place.group),
-        Named::TheBlock => {
-            print_group(rt, place.group)?;
-            print(rt, b", channel ")?;
-            print_number(rt, place.channel as u64)
-        }
+        Named::TheGroup => print!(rt; ", group {}", place.group),
+        Named::TheBlock => print!(rt; ", group {}, channel {}", place.group, place.channel),
     }
 }
 

@@ -8,31 +8,26 @@ ghost use Rattle.format.specs.Numbers.{value, code_of, plus, minus};
 pub fn bits_of(x: i32) -> u32
     ensures { result ≡ code_of 32 x }
 {
-    if x < 0 { !(!x as u32) } else { x as u32 }
+    x.cast_unsigned()
 }
 
 // The number whose 32 bits are n.
 pub fn of_bits(n: u32) -> i32
     ensures { result ≡ value 32 n }
 {
-    if n < 0x8000_0000 {
-        n as i32
-    } else {
-        !(!n as i32)
-    }
+    n.cast_signed()
 }
 
 // a + b, wrapped at 32 bits.
 pub fn wrapping_add(a: i32, b: i32) -> i32
     ensures { result ≡ plus a b }
 {
-    of_bits(std::num::wrapping_add_u32(bits_of(a), bits_of(b)))
+    a.wrapping_add(b)
 }
 
 // a - b, wrapped at 32 bits.
 pub fn wrapping_sub(a: i32, b: i32) -> i32
     ensures { result ≡ minus a b }
 {
-    let up = bits_of(a) as u64 + 0x1_0000_0000;
-    of_bits(((up - bits_of(b) as u64) % 0x1_0000_0000) as u32)
+    a.wrapping_sub(b)
 }

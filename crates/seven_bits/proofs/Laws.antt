@@ -6,11 +6,11 @@ use mathlib.Core.List.{List, map}
 use native.Mathlib.Nat.{mod-lt, zero-lt-suc, div-le_self}
 use native.Mathlib.Omega.{arith}
 use lib.ListN.{length, get_or, take, drop, replicate, length-take, length-map, get_or-map}
-use lib.Seq.{length-take-le, take_at, get_or-take}
+use lib.Seq.{take_at, get_or-take}
+use Rattle.format.specs.Refusals.{Fine}
 use Rattle.format.specs.Lists.{over}
 use Rattle.format.specs.Numbers.{num, Below}
 use Rattle.format.specs.SevenBits.{seven_in, seven, seven_length, seven_value, check_seven}
-use Rattle.format.specs.declared.refusals.Checked.TheVariants.{Fine}
 use Rattle.laws.proofs.Digits.{num_drop}
 use Rattle.laws.proofs.SevenBits.{in_last, in_more, seven_some, seven_most, value_few}
 use Rattle.seven_bits.specs.Bytes.{sevens_of, bytes_of, Short}
@@ -20,10 +20,6 @@ use Rattle.seven_bits.specs.declared.writing.Sevens.{Sevens}
 
 in_length : (k n : ℕ) → 128 ≤ n → length (seven_in (suc k) n) ≡ suc (length (seven_in k (n / 128)))
 in_length k n h = ap length (in_more k n h)
-
--- of five bytes, those that count
-pub bytes_length : (bs : List ℕ) (n : ℕ) → length bs ≡ 5 → n ≤ 5 → length (take n bs) ≡ n
-bytes_length bs n five short = length-take-le n bs (omega arith)
 
 -- of each length, which numbers
 pub seven_one : (n : ℕ) → n < 128 → 1 ≡ length (seven n)
@@ -48,6 +44,8 @@ unfolding seven seven_in
 seven_five n h =
     omega (arith, in_length 3 n (omega arith), in_length 2 (n / 128) (omega arith), in_length 1 (n / 128 / 128) (omega arith), in_length 0 (n / 128 / 128 / 128) (omega arith))
 
+pub ruleset lengths = (seven_one, seven_two, seven_three, seven_four, seven_five)
+
 -- ---- a number by value
 
 module _ (w : Sevens) (n : ℕ) (is : w ≡ sevens_of n) where
@@ -60,6 +58,8 @@ module _ (w : Sevens) (n : ℕ) (is : w ≡ sevens_of n) where
 
   pub sevens_short : Short w
   sevens_short = (omega (arith, sevens_length, seven_some n), omega (arith, sevens_length, seven_most n))
+
+pub ruleset sevens = (sevens_length, sevens_bytes, sevens_short)
 
 -- ---- reading
 

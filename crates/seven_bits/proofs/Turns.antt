@@ -1,4 +1,4 @@
--- One turn of each loop, and its ways out.
+-- One turn of each loop, and its ways out; the groups in lent bytes.
 use Prim.Native.Nat.{ℕ, zero, suc, ◌+◌, ◌-◌, ◌*◌, ◌/◌, ◌%◌, ◌^◌, ◌≤◌, ◌<◌}
 use mathlib.Core.Path.{◌≡◌, refl, sym, ap, ap₂, ◌∙◌}
 use mathlib.Core.Bool.{Bool, true, false, ◌&&◌}
@@ -7,23 +7,20 @@ use native.Mathlib.Decide.{dec_lt}
 use native.Mathlib.Numerals.{add-one}
 use native.Mathlib.Omega.{arith}
 use lib.ListN.{length, get_or, set, take, drop, replicate, length-set, length-take, length-drop, drop_of_length-le, take-append-drop}
-use lib.Seq.{sets, take-suc, take-suc-set, length-take-le, drop-drop, get_or-take, get_or-drop}
-use lib.Dec.{ltb, eqb}
-use borrow.Author.Tests.{lt-ltb, le-ltb, eq-eqb, ne_eqb, eqb-true}
+use lib.Pointwise.{pointwise, pointwise_long}
+use lib.Seq.{sets, sets-eq, take_all, take-suc-set, length-take-le, drop-drop}
+use lib.Dec.{eqb}
+use borrow.Author.Tests.{lt-ltb, le-ltb, lt-leb}
+use borrow.Rule.Slice.PartMut.{put_mid}
+use Rattle.std.proofs.lemmas.Slice.{put_mid-paste}
 use Rattle.format.specs.Lists.{from, over, same}
 use Rattle.format.specs.Numbers.{num}
 use Rattle.format.specs.SevenBits.{seven_in, seven, marked, seven_length, seven_value, check_seven}
-use Rattle.format.specs.Refusals.{nowhere, refuse}
-use Rattle.format.specs.declared.refusals.Refusal.TheVariants.{NumberCut, NumberLong, NumberTooLarge}
-use Rattle.format.specs.declared.refusals.Checked.{Checked}
-use Rattle.format.specs.declared.refusals.Checked.TheVariants.{Fine, No}
-use Rattle.laws.proofs.Chain.{stop, stop_then, pass, pass_then, and_both, first_no}
-use Rattle.laws.proofs.Tests.{never, and_right, and_no}
-use Rattle.laws.proofs.Parts.{left_now, done_more, left_more, length_from}
-use Rattle.laws.proofs.Over.{sets_join}
+use Rattle.format.specs.Refusals.{Fine}
+use Rattle.laws.proofs.Parts.{left_now, done_more, left_more}
 use Rattle.laws.proofs.SevenBits.{in_last, in_more, fine_long}
 use Rattle.seven_bits.specs.Bytes.{sevens_of}
-use Rattle.seven_bits.proofs.Laws.{bytes_length, lows, value_lows, lows_at, lows_length, rest_lt}
+use Rattle.seven_bits.proofs.Laws.{lows, value_lows, lows_at, lows_length, rest_lt}
 
 -- ---- bytes with the high bit set: k of them are passed, of m
 
@@ -63,48 +60,7 @@ module _ (s : List ℕ) (k m : ℕ) (so_far : k + marked (4 - k) (drop k s) ≡ 
       let t : marked (4 - k) (drop k s) ≡ 0 = rw e refl in
       omega arith
 
-pub length_is : (n : ℕ) (s : List ℕ) → n ≡ marked 4 s → n + 1 ≡ seven_length s
-unfolding seven_length
-length_is n s e = omega arith
-
--- ---- the checks, in order
-
-module _ (s : List ℕ) (n : ℕ) (is : n ≡ seven_length s) where
-  pub check_cut : length s < n → No NumberCut nowhere ≡ check_seven s
-  unfolding check_seven
-  check_cut h = rw (← is) (stop_then NumberCut (ltb (length s) n) _ (lt-ltb (length s) n h))
-
-  module _ (long : n ≤ length s) where
-    pub check_large : n ≡ 5 → 15 < get_or s 4 0 → No NumberTooLarge nowhere ≡ check_seven s
-    unfolding check_seven
-    check_large e h =
-        rw (← is)
-        (pass_then NumberCut (ltb (length s) n) _ _ (le-ltb (length s) n long)
-        (stop_then NumberTooLarge (eqb n 5 && ltb 15 (get_or s 4 0)) _ (and_both (eqb n 5) (ltb 15 (get_or s 4 0)) (eq-eqb n 5 e) (lt-ltb 15 (get_or s 4 0) h))))
-
-    -- the second is passed by a number that is shorter, or has a small fifth byte
-    module _ (small : (eqb n 5 && ltb 15 (get_or s 4 0)) ≡ false) where
-      past : (x : Checked) → x ≡ refuse (ltb 1 n && eqb (get_or s (n - 1) 0) 0) NumberLong → x ≡ check_seven s
-      unfolding check_seven
-      past x e =
-          rw (← is)
-          (pass_then NumberCut (ltb (length s) n) _ x (le-ltb (length s) n long)
-          (pass_then NumberTooLarge (eqb n 5 && ltb 15 (get_or s 4 0)) _ x small e))
-
-      pub check_long : 1 < n → get_or s (n - 1) 0 ≡ 0 → No NumberLong nowhere ≡ check_seven s
-      check_long l z = past (No NumberLong nowhere) (stop NumberLong _ (and_both (ltb 1 n) (eqb (get_or s (n - 1) 0) 0) (lt-ltb 1 n l) (eq-eqb (get_or s (n - 1) 0) 0 z)))
-
-      pub check_fine : (get_or s (n - 1) 0 ≡ 0 → ⊥) → Fine ≡ check_seven s
-      check_fine z = past Fine (pass NumberLong _ (and_no (ltb 1 n) (eqb (get_or s (n - 1) 0) 0) (ne_eqb (get_or s (n - 1) 0) 0 z)))
-
-      pub check_one : n ≤ 1 → Fine ≡ check_seven s
-      check_one l = past Fine (pass NumberLong _ (first_no (ltb 1 n) (eqb (get_or s (n - 1) 0) 0) (le-ltb 1 n l)))
-
-pub small_fifth : (a x : ℕ) → x ≤ 15 → (eqb a 5 && ltb 15 x) ≡ false
-small_fifth a x h = and_no (eqb a 5) (ltb 15 x) (le-ltb 15 x h)
-
-pub no_fifth : (a x : ℕ) → (a ≡ 5 → ⊥) → (eqb a 5 && ltb 15 x) ≡ false
-no_fifth a x h = first_no (eqb a 5) (ltb 15 x) (ne_eqb a 5 h)
+pub ruleset marks = (mark_turn, mark_out, mark_low, mark_full)
 
 -- ---- the number, from its last group down: v is what lies from group k on
 
@@ -126,11 +82,16 @@ module _ (s : List ℕ) (fine : check_seven s ≡ Fine) where
     pub value_fits : 128 * v + get_or s (k - 1) 0 % 128 < 2 ^ 32
     value_fits = omega (arith, value_turn, rest_lt s fine (k - 1))
 
+    pub value_grows : 128 * v < 2 ^ 32
+    value_grows = omega (arith, value_fits)
+
     pub value_reads : k - 1 < length s
     value_reads = omega (arith, fine_long s fine)
 
 pub value_done : (s : List ℕ) (k v : ℕ) → k ≤ 0 → v ≡ num 128 (drop k (lows s)) → v ≡ seven_value s
 value_done s k v h e = let z : k ≡ 0 = omega arith in (rw z at e) ∙ sym (value_lows s)
+
+pub ruleset values = (value_start, value_turn, value_fits, value_grows, value_reads, value_done)
 
 -- ---- a number into its groups: k of them are written, and r is left
 
@@ -152,10 +113,6 @@ left_room k r l h b =
 -- the bytes from k on are zero
 pub zeros_turn : (bs : List ℕ) (k x : ℕ) → drop k bs ≡ drop k (replicate 5 0) → drop (k + 1) (set bs k x) ≡ drop (k + 1) (replicate 5 0)
 zeros_turn bs k x none = left_more bs k x ∙ sym (drop-drop 1 k bs) ∙ ap (drop 1) none ∙ drop-drop 1 k (replicate 5 0)
-
-pub group_start : (n : ℕ) (bs : List ℕ) → seven n ≡ take 0 bs ++ seven_in (4 - 0) n
-unfolding seven
-group_start n bs = refl
 
 module _ (n : ℕ) (bs : List ℕ) (k r : ℕ) (long : length bs ≡ 5) (so_far : seven n ≡ take k bs ++ seven_in (4 - k) r) where
   pub group_turn : k < 4 → 128 ≤ r → seven n ≡ take (k + 1) (set bs k (128 + r % 128)) ++ seven_in (4 - (k + 1)) (r / 128)
@@ -181,85 +138,41 @@ module _ (n : ℕ) (bs : List ℕ) (k r : ℕ) (long : length bs ≡ 5) (so_far 
         let all : set bs k r ≡ over (seven n) (replicate 5 0) = sym (take-append-drop (k + 1) (set bs k r)) ∙ ap₂ ◌++◌ group_last rest in
         ap₂ (λ (b : List ℕ) (m : ℕ). record { bytes = b; len = m }) all group_length
 
--- ---- the groups into lent bytes, k so far
+pub ruleset groups = (left_room, group_done)
 
-module _ (s d bs : List ℕ) (at k : ℕ) (so_far : d ≡ sets s at (take k bs)) where
-  pub put_turn : length bs ≡ 5 → k < 5 → set d (at + k) (get_or bs k 0) ≡ sets s at (take (k + 1) bs)
-  put_turn five h =
-      let ys = take k bs in
-      let x = get_or bs k 0 in
-      let n : length ys ≡ k = length-take-le k bs (omega arith) in
-      let all : take (k + 1) bs ≡ ys ++ (x ∷ []) = ap (λ (j : ℕ). take j bs) (add-one k) ∙ take-suc bs k 0 (omega arith) in
-      rw (so_far, all) (ap (λ (j : ℕ). set (sets s at ys) (at + j) x) (sym n) ∙ sets_join ys (x ∷ []) s at)
+-- ---- the groups in lent bytes
 
-  pub put_done : (n : ℕ) → k ≤ n → n ≤ k → d ≡ sets s at (take n bs)
-  put_done n h l = let e : k ≡ n = omega arith in rw e at so_far
+module _ (s bs : List ℕ) (at n : ℕ) where
+  pub put_groups : (ys : List ℕ) → at + length (take n bs) ≤ length s → length (take n bs) ≡ n → ys ≡ take n bs → put_mid at (at + n - at) s ys ≡ sets s at (take n bs)
+  put_groups ys room long e =
+      let d : at + length (take n bs) ≡ at + n = omega arith in
+      put_mid-paste at (at + n - at) s ys (take n bs) n e (omega arith) (sym long)
+      ∙ rw (take_all n (take n bs) (omega arith), ← d) (sym (sets-eq (take n bs) s at room))
 
--- ---- the groups against bytes: the k first ones are the same, if ok, and so are those from k on
-
-module _ (xs ys : List ℕ) (k : ℕ) {t : Bool} where
-  same_turn : (ok : Bool) {o : Bool} → k < length xs → k < length ys → o ≡ eqb (get_or xs k 0) (get_or ys k 0)
-      → (ok && same (drop k xs) (drop k ys)) ≡ t → ((ok && o) && same (drop (k + 1) xs) (drop (k + 1) ys)) ≡ t
-  unfolding same
-  same_turn true h l e q =
-      ap (λ (b : Bool). b && same (drop (k + 1) xs) (drop (k + 1) ys)) e ∙ sym (ap₂ (λ (a b : List ℕ). same a b) (left_now xs k 0 h) (left_now ys k 0 l)) ∙ q
-  same_turn false h l e q = q
-
-  same_done : (ok : Bool) → length xs ≤ k → length ys ≤ k → (ok && same (drop k xs) (drop k ys)) ≡ t → ok ≡ t
-  unfolding same
-  same_done true h l q = rw (drop_of_length-le xs h, drop_of_length-le ys l) at q
-  same_done false h l q = q
-
--- lists of two lengths are not
-same_length : (xs ys : List ℕ) → same xs ys ≡ true → length xs ≡ length ys
+same_pointwise : (xs ys : List ℕ) → pointwise eqb xs ys ≡ same xs ys
 unfolding same
-same_length [] [] e = refl
-same_length [] (y ∷ ys) e = never (sym e)
-same_length (x ∷ xs) [] e = never (sym e)
-same_length (x ∷ xs) (y ∷ ys) e = ap suc (same_length xs ys (and_right (eqb x y) (same xs ys) e))
+same_pointwise [] [] = refl
+same_pointwise [] (y ∷ ys) = refl
+same_pointwise (x ∷ xs) [] = refl
+same_pointwise (x ∷ xs) (y ∷ ys) = ap (λ (b : Bool). eqb x y && b) (same_pointwise xs ys)
 
-eqb_turned : (x y : ℕ) → eqb x y ≡ eqb y x
-eqb_turned x y = by (eqb x y) refl (eqb y x) refl
+-- a list is not the same as a shorter one
+same_shorter : (xs ys : List ℕ) → length ys < length xs → same xs ys ≡ false
+same_shorter xs ys h = sym (same_pointwise xs ys) ∙ by (pointwise eqb xs ys) refl
   where
-    by : (a : Bool) → eqb x y ≡ a → (b : Bool) → eqb y x ≡ b → a ≡ b
-    by true p true q = refl
-    by true p false q = sym (eq-eqb y x (sym (eqb-true x y p))) ∙ q
-    by false p true q = sym p ∙ eq-eqb x y (sym (eqb-true y x q))
-    by false p false q = refl
+    by : (t : Bool) → pointwise eqb xs ys ≡ t → t ≡ false
+    by true e = absurd (omega (arith, pointwise_long eqb xs ys e))
+    by false e = refl
 
-module _ (s bs : List ℕ) (at n : ℕ) (five : length bs ≡ 5) (some : 1 ≤ n) (short : n ≤ 5) where
-  abbrev wanted : List ℕ
-  wanted = take n bs
-
-  abbrev found : List ℕ
-  found = from at (length wanted) s
-
-  wanted_length : length wanted ≡ n
-  wanted_length = bytes_length bs n five short
-
-  found_length : at + n ≤ length s → length found ≡ n
-  found_length h = length_from at (length wanted) s (omega (arith, wanted_length)) ∙ wanted_length
-
-  pub stands_short : length s < at + n → false ≡ same wanted found
+module _ (s bs : List ℕ) (at n : ℕ) (long : length (take n bs) ≡ n) where
+  pub stands_there : (b : Bool) → b ≡ pointwise eqb (take n bs) (take (at + n - at) (drop at s)) → b ≡ same (take n bs) (from at (length (take n bs)) s)
   unfolding from
-  stands_short h = by (same wanted found) refl
-    where
-      by : (t : Bool) → same wanted found ≡ t → false ≡ t
-      by true e = absurd (omega (arith, same_length wanted found e, wanted_length, length-take (length wanted) (drop at s), length-drop at s))
-      by false e = refl
+  stands_there b e =
+      let k : at + n - at ≡ length (take n bs) = omega arith in
+      e ∙ same_pointwise _ _ ∙ ap (λ (j : ℕ). same (take n bs) (take j (drop at s))) k
 
-  module _ (room : at + n ≤ length s) (k : ℕ) (ok : Bool) (so_far : (ok && same (drop k wanted) (drop k found)) ≡ same wanted found) where
-    pub stands_turn : k < n → ((ok && eqb (get_or s (at + k) 0) (get_or bs k 0)) && same (drop (k + 1) wanted) (drop (k + 1) found)) ≡ same wanted found
-    unfolding from
-    stands_turn h =
-        let w = wanted_length in
-        let f = found_length room in
-        let x : get_or wanted k 0 ≡ get_or bs k 0 = get_or-take n bs k 0 h in
-        let y : get_or found k 0 ≡ get_or s (at + k) 0 = get_or-take (length wanted) (drop at s) k 0 (omega arith) ∙ get_or-drop at s k 0 in
-        same_turn wanted found k ok (omega arith) (omega arith) (eqb_turned (get_or s (at + k) 0) (get_or bs k 0) ∙ ap₂ eqb (sym x) (sym y)) so_far
+  pub stands_short : 1 ≤ n → length s < at + n → same (take n bs) (from at (length (take n bs)) s) ≡ false
+  unfolding from
+  stands_short some h = same_shorter (take n bs) (take (length (take n bs)) (drop at s)) (omega (arith, length-take (length (take n bs)) (drop at s), length-drop at s))
 
-    pub stands_done : n ≤ k → ok ≡ same wanted found
-    stands_done h =
-        let w = wanted_length in
-        let f = found_length room in
-        same_done wanted found k ok (omega arith) (omega arith) so_far
+pub ruleset stands = (stands_there, stands_short, lt-leb)

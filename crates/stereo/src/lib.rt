@@ -7,10 +7,10 @@ mod frame;
 ghost use Rattle.std.specs.Prelude.{◌≡◌, true};
 ghost use Rattle.format.specs.MidSide.{left_right};
 ghost use Rattle.format.specs.Encoding.{mid_side, parity, unwoven};
-ghost use Rattle.lent_samples.specs.Lent.{lent_of, frames_from, GroupFits};
+ghost use Rattle.lent_samples.specs.Lent.{frames_from, GroupFits};
 
 use format::{Depth, SampleFormat};
-use lent_samples::Container;
+use lent_samples::Stored;
 
 // Two channels of mid and side as left and right: left = mid + side, right = mid - side, in PCM and in float files.
 pub fn left_right(format: SampleFormat, a: [[i32; 512]; 2]) -> [[i32; 512]; 2]
@@ -55,10 +55,9 @@ pub fn parity(a: [[i32; 512]; 2]) -> bool
 }
 
 // The same of the n frames from `first` on: padded frames never change it.
-pub fn frames_parity(which: Container, words: &[i32], bytes: &[u8], first: usize, n: usize) -> bool
-    requires { GroupFits 2 first n (lent_of which words.now bytes.now) }
-    ensures { let lent = lent_of which words.now bytes.now in
-        result ≡ parity (unwoven 2 (frames_from 2 first n lent)) }
+pub fn frames_parity<E: Stored>(lent: &[E], first: usize, n: usize) -> bool
+    requires { GroupFits 2 first n (E.samples lent.now) }
+    ensures { result ≡ parity (unwoven 2 (frames_from 2 first n (E.samples lent.now))) }
 {
-    parity(lent_samples::split(which, words, bytes, first, n))
+    parity(lent_samples::split(lent, first, n))
 }

@@ -1,6 +1,5 @@
--- two numbers, one after the other; where pairs begin; what the checks say; pairs that are put; what reading answers
+-- two numbers, one after the other; pairs in order, and what is asked for; pairs that are put; that they are there
 pub mod Twos
 pub mod Pairs
-pub mod Said
 pub mod Put
 pub mod Ways

@@ -2,6 +2,7 @@
 use Prim.Native.Nat.{ℕ, suc, ◌+◌, ◌*◌, ◌^◌, ◌≤◌, ◌<◌}
 use mathlib.Core.Path.{◌≡◌, refl, sym, ap, ap₂, ◌∙◌}
 use mathlib.Core.List.{List, [], ◌∷◌, ◌++◌, append_assoc}
+use native.Mathlib.Nat.{add_assoc}
 use native.Mathlib.Omega.{arith}
 use native.Mathlib.Numerals.{add-one}
 use lib.IntN.{ℤ, pos}
@@ -10,14 +11,14 @@ use lib.Seq.{drop-cons, set_at}
 use lib.Signed.{mag}
 use mir.Syntax.{w32}
 use mir.Val.{to_z, of_z}
+use mir.ValLaws.{to_z-of_z}
 use Rattle.format.specs.Lists.{joined, over}
+use Rattle.format.specs.SevenBits.{past}
 use Rattle.format.specs.Peaks.{from_pair, pair_of, pairs_from}
 use Rattle.format.specs.declared.answers.Peak.{Peak}
 use Rattle.laws.proofs.Over.{over_none, length_over}
-use Rattle.laws.proofs.Summaries.{pairs_long}
-use Rattle.sample.proofs.Words.{given}
-use Rattle.summary.proofs.Twos.{part}
-use Rattle.summary.proofs.Pairs.{Begins, part_is}
+use Rattle.laws.proofs.Summaries.{pairs_long, pairs_within, each_two}
+use Rattle.summary.proofs.Pairs.{from_more}
 
 -- one sample more
 over_set : (w s : List ℤ) (x : ℤ) → length w < length s → set (over w s) (length w) x ≡ over (w ++ (x ∷ [])) s
@@ -35,26 +36,19 @@ pairs_more : (s : List ℕ) (k i : ℕ) → pairs_from s k (i + 1) ≡ (pairs_fr
 unfolding pairs_from joined
 pairs_more s k i = rw (add-one i, append_assoc)
 
--- i of n pairs are put
-module _ (s : List ℕ) (k n i : ℕ) (lent now : List ℤ) (room : 2 * n ≤ length lent) (below : i < n) (holds : now ≡ over (pairs_from s k i) lent) where
-  same_room : length now ≡ length lent
-  same_room = ap length holds ∙ length_over (pairs_from s k i) lent (omega (arith, pairs_long s k i))
+-- i pairs are put, of so many that there is room for
+module _ (s : List ℕ) (k i : ℕ) (lent now : List ℤ) (room : 2 * i + 2 ≤ length lent) (holds : now ≡ over (pairs_from s k i) lent) where
+  pub still_long : length now ≡ length lent
+  still_long = ap length holds ∙ length_over (pairs_from s k i) lent (omega (arith, pairs_long s k i))
 
-  pub first_in : 2 * i < length now
-  first_in = omega (arith, same_room)
-
-  pub second_in : (after : List ℤ) (x : ℤ) → after ≡ set now (2 * i) x → 2 * i + 1 < length after
-  second_in after x e = omega (arith, same_room, ap length e, length-set now (2 * i) x)
-
-  pub one_more : (at : ℕ) → Begins s (k + i) at → (p : Peak) → p ≡ pair_of (part at s) → mag p.smallest < 2 ^ 31 → mag p.largest < 2 ^ 31
+  pub one_more : (p : Peak) → p ≡ pair_of (from_pair s (k + i)) → mag p.smallest < 2 ^ 31 → mag p.largest < 2 ^ 31
       → (after again : List ℤ) → after ≡ set now (2 * i) (to_z w32 (of_z w32 p.smallest)) → again ≡ set after (2 * i + 1) (to_z w32 (of_z w32 p.largest))
       → again ≡ over (pairs_from s k (i + 1)) lent
-  one_more at b p reads small large after again e f =
+  one_more p r small large after again e f =
       let W = pairs_from s k i in
       let q = pair_of (from_pair s (k + i)) in
-      let r : p ≡ q = reads ∙ ap pair_of (part_is s (k + i) at b) in
-      let x : to_z w32 (of_z w32 p.smallest) ≡ q.smallest = given {r = p.smallest} {v = q.smallest} small (ap (λ (z : Peak). z.smallest) r) in
-      let y : to_z w32 (of_z w32 p.largest) ≡ q.largest = given {r = p.largest} {v = q.largest} large (ap (λ (z : Peak). z.largest) r) in
+      let x : to_z w32 (of_z w32 p.smallest) ≡ q.smallest = to_z-of_z w32 p.smallest (record { sfits = small }) ∙ ap (λ (z : Peak). z.smallest) r in
+      let y : to_z w32 (of_z w32 p.largest) ≡ q.largest = to_z-of_z w32 p.largest (record { sfits = large }) ∙ ap (λ (z : Peak). z.largest) r in
       let l : 2 * i ≡ length W = sym (pairs_long s k i) in
       let m : 2 * i + 1 ≡ length (W ++ (q.smallest ∷ [])) = omega (arith, l, length-append W (q.smallest ∷ [])) in
       let first : after ≡ over (W ++ (q.smallest ∷ [])) lent =
@@ -64,3 +58,11 @@ module _ (s : List ℕ) (k n i : ℕ) (lent now : List ℤ) (room : 2 * n ≤ le
       ∙ ap (λ (z : List ℤ). set z (length (W ++ (q.smallest ∷ []))) q.largest) first
       ∙ over_set (W ++ (q.smallest ∷ [])) lent q.largest (omega arith)
       ∙ ap (λ (z : List ℤ). over z lent) (sym (pairs_more s k i))
+
+pub set_long : (s : List ℤ) (i : ℕ) (x : ℤ) → length (set s i x) ≡ length s
+set_long s i x = length-set s i x
+
+pub from_next : (s : List ℕ) (k i : ℕ) → past (from_pair s (k + i)) 2 ≡ from_pair s (k + (i + 1))
+from_next s k i = from_more s (k + i) ∙ ap (from_pair s) (add_assoc k i 1)
+
+pub ruleset puts = (pairs_none, still_long, set_long, one_more, from_next, each_two, pairs_within)

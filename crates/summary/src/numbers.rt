@@ -1,43 +1,51 @@
 // A summary's numbers, by twos: its frames and channels, and each pair.
-ghost use Rattle.std.specs.Prelude.{◌≡◌, ◌≤◌, length, drop};
+ghost use Rattle.std.specs.Prelude.{◌≡◌};
+ghost use Rattle.format.specs.Refusals.{Fine};
 ghost use Rattle.format.specs.Header.{groups_of};
-ghost use Rattle.format.specs.SevenBits.{seven_value, past};
+ghost use Rattle.format.specs.SevenBits.{seven_value, past, check_seven};
 ghost use Rattle.format.specs.Peaks.{summary_frames, summary_channels, pair_count, pair_of, check_two};
-ghost use Rattle.format.specs.declared.refusals.Checked.TheVariants.{Fine};
 
-use format::{Checked, Frames, Peak};
+use format::{Frames, Peak, RefusedAt};
 use seven_bits::{check_number, length_at, number_at, unfold};
 
-// The checks of two numbers, one after the other.
-pub fn check_two(s: &[u8]) -> Checked
-    ensures { result ≡ check_two s.now }
+// What lies behind the number with which it begins.
+#[tactic(auto, using(crate::proofs::Twos::twos))]
+fn behind_one(s: &[u8]) -> &[u8]
+    requires { check_seven s.now ≡ Fine }
+    ensures { result.now ≡ past s.now 1 }
 {
-    if let Checked::No(r, place) = check_number(s) {
-        return Checked::No(r, place);
-    }
-    let n = length_at(s);
-    check_number(&s[n..])
+    &s[length_at(s)..]
 }
 
-// How many bytes they take.
-pub fn two_length(s: &[u8]) -> usize
-    requires { check_two s.now ≡ Fine }
-    ensures { let s = s.entry.now in (result ≤ length s) × (drop result s ≡ past s 2) }
+// The checks of two numbers, one after the other.
+#[tactic(auto, using(laws::proofs::Chain::steps), unfolding(format::specs::Peaks::check_two))]
+pub fn check_two(s: &[u8]) -> Result<(), RefusedAt>
+    ensures { result ≡ check_two s.now }
 {
-    let n = length_at(s);
-    n + length_at(&s[n..])
+    check_number(s)?;
+    check_number(behind_one(s))
+}
+
+// What lies behind both.
+#[tactic(auto, using(crate::proofs::Twos::twos))]
+pub fn behind_two(s: &[u8]) -> &[u8]
+    requires { check_two s.now ≡ Fine }
+    ensures { result.now ≡ past s.now 2 }
+{
+    behind_one(behind_one(s))
 }
 
 // The second of them.
+#[tactic(auto, using(crate::proofs::Twos::twos))]
 pub fn second_at(s: &[u8]) -> u32
     requires { check_two s.now ≡ Fine }
     ensures { result ≡ seven_value (past s.now 1) }
 {
-    let n = length_at(s);
-    number_at(&s[n..])
+    number_at(behind_one(s))
 }
 
 // Both, signed.
+#[tactic(auto, using(crate::proofs::Twos::twos), unfolding(format::specs::Peaks::pair_of))]
 pub fn peak_at(s: &[u8]) -> Peak
     requires { check_two s.now ≡ Fine }
     ensures { result ≡ pair_of s.now }
@@ -57,15 +65,16 @@ pub fn channels_of(s: &[u8]) -> u32
 }
 
 // How many groups it has.
+#[tactic(auto, using(crate::proofs::Twos::twos))]
 pub fn groups_of(s: &[u8]) -> u32
     requires { check_two s.now ≡ Fine }
     ensures { result ≡ groups_of (summary_frames s.now) }
 {
-    let frames = Frames(number_at(s));
-    frames.groups()
+    Frames(number_at(s)).groups()
 }
 
 // How many pairs it has.
+#[tactic(auto, unfolding(format::specs::Peaks::pair_count))]
 pub fn pair_count(s: &[u8]) -> u64
     requires { check_two s.now ≡ Fine }
     ensures { result ≡ pair_count s.now }

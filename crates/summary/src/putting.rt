@@ -1,41 +1,38 @@
 // Pairs of a summary whose checks have passed, put into what is lent.
-ghost use Rattle.std.specs.Prelude.{◌≡◌, ◌+◌, ◌*◌, ◌≤◌, length, drop};
+ghost use Rattle.std.specs.Prelude.{◌≡◌, ◌+◌, ◌*◌, ◌≤◌, length};
+ghost use Rattle.format.specs.Refusals.{Fine};
 ghost use Rattle.format.specs.Lists.{over};
 ghost use Rattle.format.specs.Peaks.{pair_count, from_pair, check_summary, pairs_from};
-ghost use Rattle.format.specs.declared.refusals.Checked.TheVariants.{Fine};
-ghost use Rattle.lent_samples.specs.Lent.{lent_of, Put};
 
-use crate::numbers::{peak_at, two_length};
-use lent_samples::Container;
+use crate::numbers::{behind_two, peak_at};
+use lent_samples::Stored;
 
-// Where pair k begins.
-fn pair_start(s: &[u8], k: u64) -> usize
+// The bytes from pair k on.
+#[tactic(auto, using(crate::proofs::Pairs::walked))]
+fn from_pair(s: &[u8], k: u64) -> &[u8]
     requires { (check_summary s.now ≡ Fine) × (k ≤ pair_count s.now) }
-    ensures { let s = s.entry.now in (result ≤ length s) × (drop result s ≡ from_pair s k) }
+    ensures { result.now ≡ from_pair s.now k }
 {
-    let mut at = two_length(s);
-    let mut i: u64 = 0;
-    while i < k {
-        at += two_length(&s[at..]);
-        i += 1;
+    let mut pairs = behind_two(s);
+    for _ in 0..k {
+        pairs = behind_two(pairs);
     }
-    at
+    pairs
 }
 
 // Puts n pairs from pair k on at the front of what is lent.
-pub fn put_pairs(which: Container, words: &mut [i32], bytes: &mut [u8], s: &[u8], k: u64, n: u64)
+#[tactic(auto, using(crate::proofs::Put::puts))]
+pub fn put_pairs<E: Stored>(lent: &mut [E], s: &[u8], k: u64, n: u64)
     requires { (check_summary s.now ≡ Fine) × (k + n ≤ pair_count s.now)
-        × (2 * n ≤ length (lent_of which words.old bytes.old)) }
-    ensures { Put which words.old bytes.old words.new bytes.new
-        (over (pairs_from s.now k n)) }
+        × (2 * n ≤ length (E.samples lent.old)) }
+    ensures puts { E.samples lent.new ≡ over (pairs_from s.now k n) (E.samples lent.old) }
+    ensures keeps { E.rest lent.new ≡ E.rest lent.old }
 {
-    let mut at = pair_start(s, k);
-    let mut i: usize = 0;
-    while i < n as usize {
-        let p = peak_at(&s[at..]);
-        lent_samples::put_sample(which, words, bytes, 2 * i, p.smallest);
-        lent_samples::put_sample(which, words, bytes, 2 * i + 1, p.largest);
-        at += two_length(&s[at..]);
-        i += 1;
+    let mut pairs = from_pair(s, k);
+    for i in 0..n as usize {
+        let p = peak_at(pairs);
+        E::put_sample(lent, 2 * i, p.smallest);
+        E::put_sample(lent, 2 * i + 1, p.largest);
+        pairs = behind_two(pairs);
     }
 }

@@ -7,12 +7,12 @@ use native.Mathlib.Numerals.{add-one}
 use lib.IntN.{ℤ}
 use lib.ListN.{length, take, drop, length-take, length-drop}
 use lib.Seq.{sets, length-sets}
+use Rattle.format.specs.Refusals.{Fine}
 use Rattle.format.specs.Lists.{joined, over}
 use Rattle.format.specs.Header.{fields_of, groups_of, entry, group_bytes}
 use Rattle.format.specs.Units.{active}
 use Rattle.format.specs.Encoding.{group_in}
 use Rattle.format.specs.Reencoding.{check_reencode_group, reencoded_group, check_reencode, reencoded_file}
-use Rattle.format.specs.declared.refusals.Checked.TheVariants.{Fine}
 use Rattle.format.specs.declared.settings.PcmSpec.{PcmSpec}
 use Rattle.format.specs.declared.answers.Fields.{Fields}
 use Rattle.laws.proofs.Over.{sets_join, lent_sets, length_over, over_within}

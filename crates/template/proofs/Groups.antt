@@ -1,17 +1,17 @@
 -- The groups of a template that passed, as a loop over them meets them: where each lies, and its samples.
 use Prim.Native.Nat.{ℕ, ◌+◌, ◌-◌, ◌*◌, ◌≤◌, ◌<◌}
-use mathlib.Core.Path.{◌≡◌, sym, ap₂, ◌∙◌}
+use mathlib.Core.Path.{◌≡◌, sym, ap, ap₂, ◌∙◌}
 use mathlib.Core.List.{List}
 use native.Mathlib.Omega.{arith}
 use lib.IntN.{ℤ}
 use lib.ListN.{length, take, drop}
+use Rattle.format.specs.Refusals.{Checked, Fine}
+use Rattle.format.specs.Places.{in_group}
 use Rattle.format.specs.Lists.{from}
 use Rattle.format.specs.Header.{fields_of, groups_of, entry, group_bytes}
 use Rattle.format.specs.Units.{active}
 use Rattle.format.specs.Encoding.{group_in, check_samples}
 use Rattle.format.specs.Reencoding.{check_template, check_reencoder, check_reencode_group, reencoded_group}
-use Rattle.format.specs.declared.refusals.Checked.{Checked}
-use Rattle.format.specs.declared.refusals.Checked.TheVariants.{Fine}
 use Rattle.format.specs.declared.settings.PcmSpec.{PcmSpec}
 use Rattle.format.specs.declared.answers.Fields.{Fields}
 use Rattle.laws.proofs.SampleChecks.{reencoder_ok}
@@ -109,10 +109,10 @@ module _ (p : PcmSpec) (s : List ℤ) (t : List ℕ) (h : Fields) (template : ch
             → check_reencode_group p.bits_per_sample p.channels (part_of t h x y) (frames_from p.channels (512 * g) n s) ≡ Fine
         part_fine e = part_same check_reencode_group ∙ e
 
-        -- its checks, as they were made
+        -- its checks, as they were made: k they say, and l of the group
         pub part_checked :
-            (k r : Checked)
+            (k l : Checked)
             → k ≡ check_reencode_group p.bits_per_sample p.channels (part_of t h x y) (frames_from p.channels (512 * g) n s)
-            → k ≡ r
-            → check_reencode_group h.depth h.channels (group_bytes t h g) (group_in h.channels s g) ≡ r
-        part_checked k r says e = sym (part_same check_reencode_group) ∙ sym says ∙ e
+            → l ≡ in_group g k
+            → l ≡ in_group g (check_reencode_group h.depth h.channels (group_bytes t h g) (group_in h.channels s g))
+        part_checked k l says e = e ∙ ap (in_group g) (says ∙ part_same check_reencode_group)

@@ -1,4 +1,4 @@
--- the groups of a template; what its checks answer at each way out; the file written
+-- the groups of a template; what its checks leave, and the answer that they give; the file written
 pub mod Groups
 pub mod Stages
 pub mod Filling

@@ -2,121 +2,96 @@
 // settings are not a writer's; 31: the last frame is incomplete; 32: a value is outside the depth; 33: too many frames.
 #![tactic(auto)]
 
-ghost use Rattle.std.specs.Prelude.{◌≡◌, List, [], ◌∷◌, not, ℕ, ◌/◌, ◌≤◌, length};
+ghost use Rattle.std.specs.Prelude.{◌≡◌, List, [], ◌∷◌, ℕ, ◌/◌, ◌≤◌, length};
 ghost use Rattle.format.specs.Lists.{every, is_in};
-ghost use Rattle.format.specs.Units.{within, depth_of, frames_in};
-ghost use Rattle.format.specs.Refusals.{refuse};
-ghost use Rattle.format.specs.declared.refusals.Refusal.TheVariants.{ValueOutside};
+ghost use Rattle.format.specs.Units.{within, frames_in};
 ghost use Rattle.format.specs.Encoding.{check_spec, check_encoder, check_samples};
 ghost use Rattle.format.specs.Reencoding.{check_reencoder};
-ghost use Rattle.lent_samples.specs.Lent.{lent_of};
 ghost use Rattle.validate.specs.Whole.{WholeFrames};
 
-use format::{Checked, Depth, Framed, Frames, NOWHERE, PcmSpec, Refusal};
-use lent_samples::Container;
+use format::{Depth, Frames, PcmSpec, Refusal, RefusedAt, Unframed, refuse};
+use lent_samples::Stored;
 
 // 30 of a writer that takes 1 to `most` channels; listed: whether it takes the depth.
-fn check_spec(p: PcmSpec, most: u16, listed: bool) -> Checked
+#[tactic(auto, using(laws::proofs::Chain::stages), unfolding(format::specs::Encoding::check_spec))]
+fn check_spec(p: PcmSpec, most: u16, listed: bool) -> Result<(), RefusedAt>
     ensures { (depths : List ℕ)
         → listed ≡ is_in p.bits_per_sample depths → result ≡ check_spec most depths p }
 {
-    if p.channels == 0 {
-        return Checked::No(Refusal::WriterSpec, NOWHERE);
-    }
-    if most < p.channels {
-        return Checked::No(Refusal::WriterSpec, NOWHERE);
-    }
-    if listed {} else {
-        return Checked::No(Refusal::WriterSpec, NOWHERE);
-    }
-    if p.sample_rate == 0 {
-        return Checked::No(Refusal::WriterSpec, NOWHERE);
-    }
-    Checked::Fine
+    refuse(p.channels == 0, Refusal::WriterSpec)?;
+    refuse(most < p.channels, Refusal::WriterSpec)?;
+    refuse(!listed, Refusal::WriterSpec)?;
+    refuse(p.sample_rate == 0, Refusal::WriterSpec)
 }
 
 // The depths that the re-encoder takes.
+#[tactic(auto, unfolding(format::specs::Lists::is_in))]
 fn reencoder_depth(bits: u16) -> bool
     ensures { result ≡ is_in bits (16 ∷ 24 ∷ []) }
 {
-    match bits {
-        16 => true,
-        24 => true,
-        _ => false,
-    }
+    matches!(bits, 16 | 24)
 }
 
 // The encoder's 30: its limits stand here. It takes every depth there is.
-pub fn check_encoder(p: PcmSpec) -> Checked
+pub fn check_encoder(p: PcmSpec) -> Result<(), RefusedAt>
     ensures { result ≡ check_encoder p }
 {
     check_spec(p, 8, Depth::is_depth(p.bits_per_sample))
 }
 
 // The re-encoder's 30, with limits of its own.
-pub fn check_reencoder(p: PcmSpec) -> Checked
+#[tactic(auto, unfolding(format::specs::Reencoding::check_reencoder))]
+pub fn check_reencoder(p: PcmSpec) -> Result<(), RefusedAt>
     ensures { result ≡ check_reencoder p }
 {
     check_spec(p, 2, reencoder_depth(p.bits_per_sample))
 }
 
-fn framed(which: Container, words: &[i32], bytes: &[u8], channels: u16) -> Framed
-    ensures { let lent = lent_of which words.now bytes.now in
+// How many frames the samples are, or why they are none.
+fn framed<E: Stored>(samples: &[E], channels: u16) -> Result<Frames, Unframed>
+    ensures { let lent = E.samples samples.now in
         result ≡ frames_in (record { 0 = length lent }) channels }
 {
-    let samples = lent_samples::count(which, words, bytes);
+    let samples = E::count(samples);
     samples.frames(channels)
 }
 
 // Whether every sample lies in the depth's own range. All lie in that of 32 bits: with that depth as a constant nothing
 // is left to ask, and the compiler leaves no loop.
-fn none_outside(which: Container, words: &[i32], bytes: &[u8], depth: Depth) -> bool
-    ensures { let lent = lent_of which words.now bytes.now in
+fn none_outside<E: Stored>(samples: &[E], depth: Depth) -> bool
+    ensures { let lent = E.samples samples.now in
         result ≡ every (within depth) lent }
 {
     match depth {
-        Depth::ThirtyTwo => lent_samples::all_within(which, words, bytes, Depth::ThirtyTwo),
-        _ => lent_samples::all_within(which, words, bytes, depth),
+        Depth::ThirtyTwo => lent_samples::all_within(samples, Depth::ThirtyTwo),
+        _ => lent_samples::all_within(samples, depth),
     }
 }
 
-// 32: a value is outside the depth.
-fn check_values(which: Container, words: &[i32], bytes: &[u8], bits: u16) -> Checked
-    ensures { let lent = lent_of which words.now bytes.now in
-        result ≡ refuse (not (every (within (depth_of bits)) lent)) ValueOutside }
-{
-    if none_outside(which, words, bytes, Depth::of(bits)) {} else {
-        return Checked::No(Refusal::ValueOutside, NOWHERE);
-    }
-    Checked::Fine
-}
-
-// The samples' refusals, 31 to 33, in order.
-pub fn check_samples(which: Container, words: &[i32], bytes: &[u8], p: PcmSpec) -> Checked
+// The samples' refusals, in order. 31: the last frame is incomplete. 32: a value is outside the depth. 33: too many
+// frames.
+pub fn check_samples<E: Stored>(samples: &[E], p: PcmSpec) -> Result<(), RefusedAt>
     requires { 1 ≤ p.channels }
-    ensures { result ≡ check_samples p (lent_of which words.now bytes.now) }
+    ensures { result ≡ check_samples p (E.samples samples.now) }
 {
-    match framed(which, words, bytes, p.channels) {
-        Framed::Incomplete => Checked::No(Refusal::IncompleteFrame, NOWHERE),
-        Framed::Whole(_) => check_values(which, words, bytes, p.bits_per_sample),
-        Framed::TooMany => {
-            if let Checked::No(r, place) = check_values(which, words, bytes, p.bits_per_sample) {
-                return Checked::No(r, place);
-            }
-            Checked::No(Refusal::TooManyFrames, NOWHERE)
-        }
-    }
+    let frames = framed(samples, p.channels);
+    let depth = Depth::of(p.bits_per_sample);
+    refuse(
+        matches!(frames, Err(Unframed::Incomplete)),
+        Refusal::IncompleteFrame,
+    )?;
+    refuse(!none_outside(samples, depth), Refusal::ValueOutside)?;
+    refuse(
+        matches!(frames, Err(Unframed::TooMany)),
+        Refusal::TooManyFrames,
+    )
 }
 
 // How many frames the samples are, once 31 to 33 have passed.
-pub fn frames_of(which: Container, words: &[i32], bytes: &[u8], channels: u16) -> Frames
-    requires { WholeFrames channels (lent_of which words.now bytes.now) }
-    ensures { result.0 ≡ length (lent_of which words.now bytes.now) / channels }
+#[tactic(auto, unfolding(format::specs::Units::frames_in))]
+pub fn frames_of<E: Stored>(samples: &[E], channels: u16) -> Frames
+    requires { WholeFrames channels (E.samples samples.now) }
+    ensures { result.0 ≡ length (E.samples samples.now) / channels }
 {
-    match framed(which, words, bytes, channels) {
-        Framed::Whole(frames) => frames,
-        // neither is left by 31 and 33
-        Framed::Incomplete => Frames(0),
-        Framed::TooMany => Frames(0),
-    }
+    framed(samples, channels).unwrap()
 }

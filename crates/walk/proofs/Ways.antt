@@ -1,4 +1,5 @@
--- What a step answers at each way out, from what the calls' contracts and the matches give.
+-- What a step's checks tell at each way out, and what it answers once they have passed.
+use Rattle.std.specs.Prelude.{Ok, Err}
 use Prim.Native.Nat.{ℕ, ◌+◌, ◌-◌, ◌*◌, ◌^◌, ◌≤◌, ◌<◌}
 use mathlib.Core.Path.{◌≡◌, refl, sym, ap, ◌∙◌}
 use mathlib.Core.Bool.{Bool, true, false, cond}
@@ -8,11 +9,11 @@ use native.Mathlib.Omega.{arith}
 use lib.ListN.{length, take, drop}
 use lib.IntN.{ℤ}
 use lib.Dec.{ltb}
-use borrow.Author.Tests.{lt-ltb, le-ltb, ltb-true, ltb-false}
+use borrow.Author.Tests.{lt-ltb, le-ltb, ltb-true}
 use Rattle.format.specs.Lists.{over}
 use Rattle.format.specs.Numbers.{Below}
 use Rattle.format.specs.Header.{fields_of, groups_of, entry, group_bytes}
-use Rattle.format.specs.Refusals.{nowhere, refuse, ◌then◌}
+use Rattle.format.specs.Refusals.{Checked, Fine, refuse, ◌then◌}
 use Rattle.format.specs.Places.{at_group, in_group}
 use Rattle.format.specs.Answers.{answered_by, refused_by, answered}
 use Rattle.format.specs.Opening.{format_of, check_open}
@@ -20,18 +21,16 @@ use Rattle.format.specs.Decoding.{check_group, channels_of, woven, group_samples
 use Rattle.format.specs.Units.{samples_in, active}
 use Rattle.format.specs.Walking.{check_step, step_samples, step_count, has_group, check_step_into, check_walk, step_of, groups_passed, next_of, step_into}
 use Rattle.format.specs.declared.units.Frames.{Frames}
-use Rattle.format.specs.declared.refusals.Refusal.{Refusal}
 use Rattle.format.specs.declared.refusals.Refusal.TheVariants.{OutputTooShort}
-use Rattle.format.specs.declared.refusals.Place.{Place}
-use Rattle.format.specs.declared.refusals.Checked.{Checked}
-use Rattle.format.specs.declared.refusals.Checked.TheVariants.{Fine, No}
+use Rattle.format.specs.declared.refusals.RefusedAt.{RefusedAt}
 use Rattle.format.specs.declared.settings.SampleFormat.{SampleFormat}
 use Rattle.format.specs.declared.units.Samples.{Samples}
 use Rattle.format.specs.declared.answers.Fields.{Fields}
 use Rattle.format.specs.declared.answers.Outcome.TheVariants.{Read, Finished}
 use Rattle.format.specs.declared.answers.Answer.{Answer}
-use Rattle.laws.proofs.Checks.{passed, first_fine, others_fine}
-use Rattle.laws.proofs.Places.{fine_located, located_fine, no_located}
+use Rattle.laws.proofs.Checks.{first_fine, others_fine, has_room}
+use Rattle.laws.proofs.Chain.{settled, stops_with, passes_on}
+use Rattle.laws.proofs.Places.{located_fine}
 use Rattle.laws.proofs.Reading.{number_lt}
 use Rattle.laws.proofs.Opened.{opened_long}
 use Rattle.lent_samples.specs.Lent.{placed, woven_from}
@@ -56,47 +55,37 @@ module _ (s : List ℕ) (g : ℕ) (h : Fields) (reads : h ≡ fields_of s) where
   in_step : (n : Frames) (m : Samples) → n.0 ≡ active h.frames g → m ≡ samples_in n h.channels → m ≡ step_count s g
   in_step n m count counts = counts ∙ rw (count, reads) refl
 
--- ---- a step's checks
-module _ (s : List ℕ) (g room : ℕ) (a : Checked) (says : a ≡ check_open s) (fine : a ≡ Fine) (h : Fields) (reads : h ≡ fields_of s) (groups : ℕ) (all : groups ≡ groups_of h.frames) where
-  pub walk_depth : h.depth ≤ 32
-  walk_depth = depth_32 s h (sym says ∙ fine) reads
+-- what opening refuses a step refuses
+pub walk_opened : (s : List ℕ) (g room : ℕ) (k : Checked) → k ≡ check_open s → (x : RefusedAt) → k ≡ Err x → Err x ≡ check_walk s g room
+unfolding check_walk
+walk_opened s g room k says x t = stops_with k (check_open s) says _ x t
 
+-- ---- a step's checks, past opening's
+module _ (s : List ℕ) (g room : ℕ) (opens : check_open s ≡ Fine) (h : Fields) (reads : h ≡ fields_of s) (groups : ℕ) (all : groups ≡ groups_of h.frames) where
   pub walk_done : groups ≤ g → Fine ≡ check_walk s g room
   unfolding check_walk ◌then◌
-  walk_done l = rw (← says, fine, none_left s g h reads groups all l)
+  walk_done l = rw (opens, none_left s g h reads groups all l)
 
-  module _ (below : g < groups) (p e : ℕ) (starts : p ≡ h.start + entry s h g) (ends : e ≡ h.start + entry s h (g + 1)) where
-    pub walk_rises : p ≤ e
-    walk_rises = part_rises s h (sym says ∙ fine) reads groups g p e all below starts ends
+  -- k is what the group's checks say, and q what they say of group g
+  module _ (below : g < groups) (p e : ℕ) (starts : p ≡ h.start + entry s h g) (ends : e ≡ h.start + entry s h (g + 1))
+      (f : SampleFormat) (format : f ≡ format_of s h) (k q : Checked) (checked : k ≡ check_group h f (take (e - p) (drop p s))) (placed : q ≡ in_group g k) where
+    step_says : check_step s g ≡ q
+    unfolding check_step
+    step_says = rw (← reads, ← format) (ap (in_group g) (part_checked s h opens reads groups g p e all below starts ends f k k checked refl)) ∙ sym placed
 
-    pub walk_within : e ≤ length s
-    walk_within = part_within s h (sym says ∙ fine) reads groups g p e all below starts ends
+    with_step : check_walk s g room ≡ (q then refuse (ltb room (step_count s g).0) OutputTooShort)
+    unfolding check_walk check_step_into ◌then◌
+    with_step = rw (opens, one_left s g h reads groups all below, step_says) refl
 
-    module _ (f : SampleFormat) (format : f ≡ format_of s h) (k : Checked) (checked : k ≡ check_group h f (take (e - p) (drop p s))) where
-      checks : check_step s g ≡ in_group g k
-      unfolding check_step
-      checks = rw (← reads, ← format) (ap (in_group g) (part_checked s h (sym says ∙ fine) reads groups g p e all below starts ends f k k checked refl))
+    pub walk_refuses : (x : RefusedAt) → q ≡ Err x → Err x ≡ check_walk s g room
+    walk_refuses x t = stops_with q q refl _ x t ∙ sym with_step
 
-      into : (c : Checked) → check_step_into s g room ≡ c → check_walk s g room ≡ c
-      unfolding check_walk ◌then◌
-      into c t = rw (← says, fine, one_left s g h reads groups all below) t
+    pub walk_passes : q ≡ Fine → (n : Frames) (m : Samples) → n.0 ≡ active h.frames g → m ≡ samples_in n h.channels
+        → (x : Checked) → x ≡ refuse (ltb room m.0) OutputTooShort → x ≡ check_walk s g room
+    walk_passes good n m count counts x t =
+        passes_on q q refl _ x good (t ∙ ap (λ (y : Samples). refuse (ltb room y.0) OutputTooShort) (in_step s g h reads n m count counts)) ∙ sym with_step
 
-      pub walk_refused : (r : Refusal) (from at : Place) → k ≡ No r from → at ≡ at_group g from → No r at ≡ check_walk s g room
-      unfolding check_step_into ◌then◌
-      walk_refused r from at t there = sym (into (No r at) (rw (checks, no_located (at_group g) k r from t, there)))
-
-      module _ (good : k ≡ Fine) (n : Frames) (m : Samples) (count : n.0 ≡ active h.frames g) (counts : m ≡ samples_in n h.channels) where
-        fits : (b : Bool) → ltb room m.0 ≡ b → check_step_into s g room ≡ refuse b OutputTooShort
-        unfolding check_step_into ◌then◌
-        fits b t = rw (checks, fine_located (at_group g) k good) (ap (λ (x : Bool). refuse x OutputTooShort) (ap (λ (x : Samples). ltb room x.0) (sym (in_step s g h reads n m count counts)) ∙ t))
-
-        pub walk_short : room < m.0 → No OutputTooShort nowhere ≡ check_walk s g room
-        unfolding refuse
-        walk_short l = sym (into (No OutputTooShort nowhere) (fits true (lt-ltb room m.0 l)))
-
-        pub walk_fine : m.0 ≤ room → Fine ≡ check_walk s g room
-        unfolding refuse
-        walk_fine l = sym (into Fine (fits false (le-ltb room m.0 l)))
+pub ruleset walks = (settled, stops_with, opened_long, depth_32, part_rises, part_within, walk_opened, walk_done, walk_refuses, walk_passes)
 
 -- ---- and its answer
 placed_front : (xs s : List ℤ) → placed 0 xs s ≡ over xs s
@@ -104,13 +93,13 @@ unfolding placed over
 placed_front xs s = rw zero-add refl
 
 module _ (s : List ℕ) (g c : ℕ) (k : Checked) (says : k ≡ check_walk s g c) where
-  pub step_refused : (room : ℕ) → c ≡ room → (r : Refusal) (at : Place) → k ≡ No r at → refused_by r at ≡ step_of s g room
+  pub step_refused : (room : ℕ) → c ≡ room → (x : RefusedAt) → k ≡ Err x → refused_by x.why x.place ≡ step_of s g room
   unfolding step_of
-  step_refused room lent r at t = rw (← lent, ← says, t)
+  step_refused room lent x t = rw (← lent, ← says, t)
 
-  pub step_keeps : (out : List ℤ) → c ≡ length out → (r : Refusal) (at : Place) → k ≡ No r at → out ≡ step_into s g out
+  pub step_keeps : (out : List ℤ) → c ≡ length out → (x : RefusedAt) → k ≡ Err x → out ≡ step_into s g out
   unfolding step_into
-  step_keeps out e r at t = rw (← e, ← says, t)
+  step_keeps out e x t = rw (← e, ← says, t)
 
   module _ (fine : k ≡ Fine) where
     pub step_opens : check_open s ≡ Fine
@@ -158,9 +147,7 @@ module _ (s : List ℕ) (g c : ℕ) (k : Checked) (says : k ≡ check_walk s g c
         module _ (n : Frames) (count : n.0 ≡ active h.frames g) where
           pub step_room : (room : ℕ) → c ≡ room → (0 + n.0) * h.channels ≤ room
           unfolding check_step_into
-          step_room room lent =
-              let e = ltb-false c (step_count s g).0 (passed _ _ (others_fine (check_step s g) _ checks_fine)) in
-              omega (arith, ap (λ (x : Samples). x.0) (in_step s g h reads n (samples_in n h.channels) count refl), zero-add n.0)
+          step_room room lent = omega (arith, has_room (check_step s g) c (step_count s g).0 OutputTooShort checks_fine, ap (λ (x : Samples). x.0) (in_step s g h reads n (samples_in n h.channels) count refl), zero-add n.0)
 
           pub step_reads : (room : ℕ) → c ≡ room → (m : Samples) → m ≡ samples_in n h.channels → answered_by (Read m) ≡ step_of s g room
           unfolding step_of
@@ -177,6 +164,8 @@ module _ (s : List ℕ) (g c : ℕ) (k : Checked) (says : k ≡ check_walk s g c
               xs : List ℤ
               xs = woven_from 0 n.0 (channels_of h f (take (e - p) (drop p s)))
 
+pub ruleset steps = (step_refused, step_keeps, step_opens, step_fields, step_done, done_keeps, step_rises, step_within, step_readable, step_room, step_reads, puts_group)
+
 -- ---- where it leaves the walk, by a step's answer and how many groups it goes past
 module _ (s : List ℕ) (g room n : ℕ) (a : Answer) (answers : a ≡ step_of s g room) (goes : n ≡ groups_passed a.outcome) where
   pub goes_on : g + n ≡ next_of s g room
@@ -189,6 +178,8 @@ module _ (s : List ℕ) (g room n : ℕ) (a : Answer) (answers : a ≡ step_of s
   next_fits byte fits = let e = by (check_walk s g room) (has_group s g) refl in omega (arith, goes_on)
     where
       by : (c : Checked) (b : Bool) → has_group s g ≡ b → g + groups_passed (answered c (cond b (Read (step_count s g)) Finished)).outcome < 2 ^ 32
-      by (No r at) b e = omega (arith, fits)
-      by Fine false e = omega (arith, fits)
-      by Fine true e = omega (arith, ltb-true g (groups_of (fields_of s).frames) e, number_lt 16 4 s byte)
+      by (Err refused) b e = omega (arith, fits)
+      by (Ok ok) false e = omega (arith, fits)
+      by (Ok ok) true e = omega (arith, ltb-true g (groups_of (fields_of s).frames) e, number_lt 16 4 s byte)
+
+pub ruleset goes = (goes_on, next_fits)

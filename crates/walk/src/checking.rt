@@ -2,29 +2,24 @@
 ghost use Rattle.std.specs.Prelude.{◌≡◌};
 ghost use Rattle.format.specs.Walking.{check_walk};
 
-use format::{Checked, NOWHERE, Refusal, Samples};
+use format::{Refusal, RefusedAt, Samples, in_group, refuse};
 
 // At group g, into so much room.
-pub fn check_walk(file: &[u8], g: u32, room: Samples) -> Checked
+#[tactic(auto, using(crate::proofs::Ways::walks))]
+pub fn check_walk(file: &[u8], g: u32, room: Samples) -> Result<(), RefusedAt>
     ensures { result ≡ check_walk file.now g room.0 }
 {
-    if let Checked::No(r, place) = opening::check_open(file) {
-        return Checked::No(r, place);
-    }
+    opening::check_open(file)?;
     let h = header::read_fields(file);
-    let frames = h.frames;
-    if frames.groups() <= g {
-        return Checked::Fine;
+    if h.frames.groups() <= g {
+        return Ok(());
     }
     let format = opening::format_of(file, h);
     let a = opening::offset_of(file, h, g);
     let e = opening::offset_of(file, h, g + 1);
-    if let Checked::No(r, place) = group::check_group(h, format, &file[a..e]) {
-        return Checked::No(r, place.at_group(g));
-    }
-    let active = frames.active(g);
-    if room.0 < active.samples(h.channels).0 {
-        return Checked::No(Refusal::OutputTooShort, NOWHERE);
-    }
-    Checked::Fine
+    in_group(g, group::check_group(h, format, &file[a..e]))?;
+    refuse(
+        room.0 < h.frames.active(g).samples(h.channels).0,
+        Refusal::OutputTooShort,
+    )
 }

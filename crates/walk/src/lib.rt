@@ -10,7 +10,7 @@ ghost use Rattle.format.specs.Walking.{groups_passed};
 ghost use Rattle.format.specs.Promises.{Advances};
 
 use format::{Answer, Outcome};
-pub use one_group::{decode_group, decode_group_lent};
+pub use one_group::decode_group;
 
 // What a step says, and the next group's number after it.
 #[derive(Clone, Copy)]
@@ -25,16 +25,12 @@ fn groups_passed(outcome: Outcome) -> u32
 {
     match outcome {
         Outcome::Read(_) => 1,
-        Outcome::Finished => 0,
-        Outcome::Refused(_) => 0,
-        Outcome::Opened(_) => 0,
-        Outcome::Wrote(_) => 0,
-        Outcome::Matches => 0,
-        Outcome::Differs => 0,
+        _ => 0,
     }
 }
 
 // One group's samples, and where the walk then stands.
+#[tactic(auto, using(crate::proofs::Ways::goes))]
 fn advance(file: &[u8], next: u32, out: &mut [i32]) -> Advanced
     ensures { let lent = out.old in
         Advances file.now next lent result.answer out.new result.next }

@@ -1,51 +1,35 @@
 // One group's samples, by number.
 ghost use Rattle.std.specs.Prelude.{◌≡◌};
 ghost use Rattle.format.specs.Promises.{Steps};
-ghost use Rattle.lent_samples.specs.Lent.{lent_of, rest_of};
 
 use crate::checking::check_walk;
-use format::{Answer, Checked, Outcome};
-use lent_samples::{Container, Part};
+use format::{Answer, Outcome};
+use lent_samples::{Part, Stored};
 
 // Puts one group's samples at the front of what is lent in either container: how many, that no group of that number is
 // left, or the refusal. All else that is lent stays as it was.
-pub fn decode_group_lent(
-    which: Container,
-    file: &[u8],
-    g: u32,
-    words: &mut [i32],
-    bytes: &mut [u8],
-) -> Answer
-    ensures steps { let lent = lent_of which words.old bytes.old in
-        Steps file.now g lent result (lent_of which words.new bytes.new) }
-    ensures keeps { let rest = rest_of which words.old bytes.old in
-        rest_of which words.new bytes.new ≡ rest }
+#[tactic(auto, using(crate::proofs::Ways::steps))]
+pub fn decode_group<E: Stored>(file: &[u8], g: u32, lent: &mut [E]) -> Answer
+    ensures steps { Steps file.now g (E.samples lent.old) result (E.samples lent.new) }
+    ensures keeps { E.rest lent.new ≡ E.rest lent.old }
 {
-    if let Checked::No(r, place) = check_walk(file, g, lent_samples::count(which, words, bytes)) {
-        return Answer::refused(r, place);
+    if let Err(refused) = check_walk(file, g, E::count(lent)) {
+        return Answer::refused(refused);
     }
     let h = header::read_fields(file);
-    let frames = h.frames;
-    if frames.groups() <= g {
+    if h.frames.groups() <= g {
         return Answer::of(Outcome::Finished);
     }
     let format = opening::format_of(file, h);
     let a = opening::offset_of(file, h, g);
     let e = opening::offset_of(file, h, g + 1);
-    let active = frames.active(g);
+    let active = h.frames.active(g);
     let n = active.0 as usize;
     let part = Part {
         first: 0,
         skip: 0,
         count: n,
     };
-    group::put_group(which, words, bytes, &file[a..e], h, format, part);
+    group::put_group(lent, &file[a..e], h, format, part);
     Answer::of(Outcome::Read(active.samples(h.channels)))
-}
-
-// The same into numbers.
-pub fn decode_group(file: &[u8], g: u32, out: &mut [i32]) -> Answer
-    ensures { Steps file.now g out.old result out.new }
-{
-    decode_group_lent(Container::Words, file, g, out, &mut [])
 }

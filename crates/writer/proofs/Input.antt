@@ -1,25 +1,23 @@
 -- What the checks before sizes answer at each way out, and what they tell once passed.
-use Prim.Native.Nat.{ℕ, ◌*◌, ◌/◌, ◌<◌, ◌≤◌}
-use mathlib.Core.Path.{◌≡◌, sym, ap, ◌∙◌}
+use Prim.Native.Nat.{ℕ, ◌/◌, ◌≤◌}
+use mathlib.Core.Path.{◌≡◌, ◌∙◌}
 use mathlib.Core.Bool.{Bool, false, not, ◌&&◌}
 use mathlib.Core.List.{List}
 use lib.ListN.{length}
 use lib.IntN.{ℤ}
-use borrow.Author.Tests.{ne_eqb, not-false}
+use lib.Dec.{eqb}
+use borrow.Author.Tests.{not-false}
 use Rattle.format.specs.Header.{groups_of}
-use Rattle.format.specs.Refusals.{nowhere, refuse, ◌then◌, in_order}
+use Rattle.format.specs.Refusals.{Checked, Fine, refuse, ◌then◌, in_order}
 use Rattle.format.specs.Places.{at_group, in_group}
 use Rattle.format.specs.Encoding.{unwoven, parity, group_in, check_encoder, check_samples, is_mid_side, frames_of, check_stereo}
 use Rattle.format.specs.declared.refusals.Refusal.TheVariants.{NotStereo, ParityDiffers}
-use Rattle.format.specs.declared.refusals.Checked.{Checked}
-use Rattle.format.specs.declared.refusals.Checked.TheVariants.{Fine, No}
 use Rattle.format.specs.declared.settings.PcmSpec.{PcmSpec}
 use Rattle.format.specs.declared.settings.StereoMode.{StereoMode}
-use Rattle.format.specs.declared.settings.StereoMode.TheVariants.{Auto, Direct, MidSide}
-use Rattle.format.specs.declared.units.Frames.{Frames}
+use Rattle.format.specs.declared.settings.StereoMode.TheVariants.{MidSide}
 use Rattle.laws.proofs.Checks.{pass, passed, ◌and_then◌, first_fine, others_fine}
 use Rattle.laws.proofs.Places.{located_at, located_all}
-use Rattle.laws.proofs.Chain.{first_no}
+use Rattle.laws.proofs.Chain.{first_no, err_then, stages}
 use Rattle.laws.proofs.Signs.{holds_every}
 use Rattle.laws.proofs.SampleChecks.{encoder_ok, frames_ok, values_ok, count_ok}
 use Rattle.writer.specs.Accepted.{Accepted}
@@ -29,48 +27,37 @@ module _ (p : PcmSpec) (mode : StereoMode) (s : List ℤ) where
   differs : ℕ → Bool
   differs g = is_mid_side mode && not (parity (unwoven p.channels (group_in p.channels s g)))
 
-  unasked : is_mid_side mode ≡ false → Fine ≡ check_stereo p mode s
+  -- only MidSide asks
+  pub unasked : is_mid_side mode ≡ false → check_stereo p mode s ≡ Fine
   unfolding check_stereo differs
   unasked e =
-      sym (pass _ NotStereo (first_no (is_mid_side mode) _ e)
-      and_then located_all (λ g. refuse (differs g) ParityDiffers) at_group (groups_of (frames_of p s)) (λ g l. pass (differs g) ParityDiffers (first_no (is_mid_side mode) _ e)))
+      pass _ NotStereo (first_no (is_mid_side mode) _ e)
+      and_then located_all (λ g. refuse (differs g) ParityDiffers) at_group (groups_of (frames_of p s)) (λ g l. pass (differs g) ParityDiffers (first_no (is_mid_side mode) _ e))
 
-  pub stereo_auto : mode ≡ Auto → Fine ≡ check_stereo p mode s
-  unfolding is_mid_side
-  stereo_auto e = unasked (ap is_mid_side e)
+  -- and it asks for two channels first, and then for parity
+  pub asked : mode ≡ MidSide
+      → check_stereo p mode s
+      ≡ (refuse (not (eqb p.channels 2)) NotStereo
+      then in_order (λ g. in_group g (refuse (not (parity (unwoven p.channels (group_in p.channels s g)))) ParityDiffers)) (groups_of (frames_of p s)))
+  unfolding check_stereo is_mid_side
+  asked e = rw e
 
-  pub stereo_direct : mode ≡ Direct → Fine ≡ check_stereo p mode s
-  unfolding is_mid_side
-  stereo_direct e = unasked (ap is_mid_side e)
+  -- which of two channels is all
+  pub parity_asked : mode ≡ MidSide → p.channels ≡ 2
+      → check_stereo p mode s ≡ in_order (λ g. in_group g (refuse (not (parity (unwoven 2 (group_in 2 s g)))) ParityDiffers)) (groups_of (record { 0 = length s / 2 }))
+  unfolding ◌then◌ refuse
+  parity_asked e two = asked e ∙ rw two
 
-  module _ (e : mode ≡ MidSide) where
-    pub not_stereo : (p.channels ≡ 2 → ⊥) → No NotStereo nowhere ≡ check_stereo p mode s
-    unfolding check_stereo is_mid_side refuse ◌then◌
-    not_stereo h = rw (e, ne_eqb p.channels 2 h)
-
-    module _ (two : p.channels ≡ 2) where
-      pub count_two : length s / p.channels < 4294967296 → length s / 2 < 4294967296
-      count_two h = rw two at h
-
-      pub exact_two : length s ≡ p.channels * (length s / p.channels) → length s ≡ 2 * (length s / 2)
-      exact_two h = rw two at h
-
-      module _ (f : Frames) (counts : f.0 ≡ length s / 2) where
-        pub whole_two : length s ≡ p.channels * (length s / p.channels) → length s ≡ 2 * f.0
-        whole_two h = exact_two h ∙ ap (λ (n : ℕ). 2 * n) (sym counts)
-
-        pub parity_checked : (k : Checked) → k ≡ in_order (λ g. in_group g (refuse (not (parity (unwoven 2 (group_in 2 s g)))) ParityDiffers)) (groups_of f) → k ≡ check_stereo p mode s
-        unfolding check_stereo is_mid_side ◌then◌ refuse
-        parity_checked k says =
-            rw (e, two)
-            (says ∙ ap (λ (n : ℕ). in_order (λ g. in_group g (refuse (not (parity (unwoven 2 (group_in 2 s g)))) ParityDiffers)) (groups_of (record { 0 = n }))) counts)
+pub ruleset asks = (unasked, asked, parity_asked, err_then)
 
 -- ---- 30 to 35
 abbrev pub check_input : PcmSpec → StereoMode → List ℤ → Checked
 check_input p mode s = check_encoder p then check_samples p s then check_stereo p mode s
 
-pub input_some : (p : PcmSpec) (a : Checked) → a ≡ check_encoder p → a ≡ Fine → 1 ≤ p.channels
-input_some p a spec fine = (encoder_ok p (sym spec ∙ fine)).some
+pub input_some : (p : PcmSpec) → check_encoder p ≡ Fine → 1 ≤ p.channels
+input_some p fine = (encoder_ok p fine).some
+
+pub ruleset inputs = (stages, input_some, frames_ok, count_ok)
 
 -- what they leave
 pub accepted : (p : PcmSpec) (mode : StereoMode) (s : List ℤ) → check_input p mode s ≡ Fine → Accepted p mode s

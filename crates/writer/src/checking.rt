@@ -5,77 +5,51 @@ ghost use Rattle.format.specs.Refusals.{refuse, ◌then◌, in_order};
 ghost use Rattle.format.specs.Places.{in_group};
 ghost use Rattle.format.specs.Encoding.{unwoven, parity, group_in, check_encoder, check_samples, check_stereo};
 ghost use Rattle.format.specs.declared.refusals.Refusal.TheVariants.{ParityDiffers};
-ghost use Rattle.lent_samples.specs.Lent.{lent_of};
 ghost use Rattle.validate.specs.Whole.{WholeFrames};
 
-use format::{Checked, Depth, Frames, NOWHERE, PcmSpec, Refusal, StereoMode};
-use lent_samples::Container;
+use format::{Depth, Frames, PcmSpec, Refusal, RefusedAt, StereoMode, in_group, refuse};
+use lent_samples::Stored;
 
 // 35 over the groups of two channels in order: the first in which a frame's samples differ in parity.
-fn check_parity(which: Container, words: &[i32], bytes: &[u8], frames: Frames) -> Checked
-    requires { length (lent_of which words.now bytes.now) ≡ 2 * frames.0 }
-    ensures { (let lent = lent_of which words.now bytes.now in
+#[tactic(auto, using(crate::proofs::Groups::parities))]
+fn check_parity<E: Stored>(samples: &[E], frames: Frames) -> Result<(), RefusedAt>
+    requires { length (E.samples samples.now) ≡ 2 * frames.0 }
+    ensures { (let lent = E.samples samples.now in
         let differs : ℕ → Bool = λ g. not (parity (unwoven 2 (group_in 2 lent g))) in
         result ≡ in_order (λ g. in_group g (refuse (differs g) ParityDiffers)) (groups_of frames)) }
 {
-    let groups = frames.groups();
-    let mut g: u32 = 0;
-    while g < groups {
+    for g in 0..frames.groups() {
         let n = frames.active(g).0 as usize;
-        if stereo::frames_parity(
-            which,
-            words,
-            bytes,
-            Depth::SAMPLES_PER_BLOCK * g as usize,
-            n,
-        ) {} else {
-            return Checked::No(Refusal::ParityDiffers, NOWHERE.at_group(g));
-        }
-        g += 1;
+        let first = Depth::SAMPLES_PER_BLOCK * g as usize;
+        let is_equal = stereo::frames_parity(samples, first, n);
+        in_group(g, refuse(!is_equal, Refusal::ParityDiffers))?;
     }
-    Checked::Fine
+    Ok(())
 }
 
 // Of MidSide, 34: not two channels; 35: a frame's samples differ in parity.
-fn check_stereo(
-    which: Container,
-    words: &[i32],
-    bytes: &[u8],
-    p: PcmSpec,
-    mode: StereoMode,
-) -> Checked
-    requires { WholeFrames p.channels (lent_of which words.now bytes.now) }
-    ensures { result ≡ check_stereo p mode (lent_of which words.now bytes.now) }
+#[tactic(auto, using(crate::proofs::Input::asks), unfolding(format::specs::Encoding::is_mid_side))]
+fn check_stereo<E: Stored>(samples: &[E], p: PcmSpec, mode: StereoMode) -> Result<(), RefusedAt>
+    requires { WholeFrames p.channels (E.samples samples.now) }
+    ensures { result ≡ check_stereo p mode (E.samples samples.now) }
 {
     match mode {
-        StereoMode::Auto => Checked::Fine,
-        StereoMode::Direct => Checked::Fine,
+        StereoMode::Auto | StereoMode::Direct => Ok(()),
         StereoMode::MidSide => {
-            if p.channels != 2 {
-                return Checked::No(Refusal::NotStereo, NOWHERE);
-            }
-            let frames = validate::frames_of(which, words, bytes, 2);
-            check_parity(which, words, bytes, frames)
+            refuse(p.channels != 2, Refusal::NotStereo)?;
+            let frames = validate::frames_of(samples, 2);
+            check_parity(samples, frames)
         }
     }
 }
 
 // All of these, in order.
-pub fn check_input(
-    which: Container,
-    words: &[i32],
-    bytes: &[u8],
-    p: PcmSpec,
-    mode: StereoMode,
-) -> Checked
-    ensures { let lent = lent_of which words.now bytes.now in
+#[tactic(auto, using(crate::proofs::Input::inputs))]
+pub fn check_input<E: Stored>(samples: &[E], p: PcmSpec, mode: StereoMode) -> Result<(), RefusedAt>
+    ensures { let lent = E.samples samples.now in
         result ≡ (check_encoder p then check_samples p lent then check_stereo p mode lent) }
 {
-    if let Checked::No(r, place) = validate::check_encoder(p) {
-        return Checked::No(r, place);
-    }
-    if let Checked::No(r, place) = validate::check_samples(which, words, bytes, p) {
-        return Checked::No(r, place);
-    }
-    check_stereo(which, words, bytes, p, mode)
+    validate::check_encoder(p)?;
+    validate::check_samples(samples, p)?;
+    check_stereo(samples, p, mode)
 }

@@ -1,15 +1,10 @@
--- The loop's invariant: the first k values are stored, k is even, and the cursor stands at code k, bit bits * k.
-use Rattle.std.proofs.Common.{◌≡◌, ◌-◌, ◌*◌, ◌%◌, ◌≤◌, length}
+-- The loop's invariant: the first 2 * i values are stored, and the cursor stands at the next one's code.
+use Rattle.std.proofs.Common.{◌≡◌, ◌*◌, length}
 use Rattle.bits.proofs.Run.{Done}
 use Rattle.bits.proofs.packed_values.Given as goal
 
-abbrev pub invariant-loop-k : goal.invariant-loop-k
-invariant-loop-k l =
-    (l.k ≤ 512)
-    × (l.k % 2 ≡ 0)
-    × (length l.out ≡ 512)
-    × (l.cursor.bit ≡ l.bits * l.k)
-    × Done l.bits l.run l.out l.k
-
-abbrev pub decreases-loop-k : goal.decreases-loop-k
-decreases-loop-k l = 512 - l.k
+abbrev pub invariant-loop-i : goal.invariant-loop-i
+invariant-loop-i l =
+    (length l.out ≡ 512)
+    × (l.cursor.bit ≡ l.bits * (2 * l.i))
+    × Done l.bits l.run l.out (2 * l.i)

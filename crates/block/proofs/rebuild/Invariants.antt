@@ -1,19 +1,11 @@
--- The loop's invariant: the samples before k are stored, k is even, x is sample k, and the cursor stands at
--- difference k.
-use mathlib.Core.Path.{◌≡◌}
-use Prim.Native.Nat.{◌≤◌, ◌-◌, ◌*◌, ◌%◌}
-use lib.ListN.{length}
+-- The loop's invariant: the first 2 * i samples are stored, x is the next, and the cursor stands at its difference.
+use Rattle.std.proofs.Common.{◌≡◌, ◌*◌, length}
 use Rattle.format.specs.Packed.{values}
 use Rattle.block.proofs.Sweeps.{Summed}
 use Rattle.block.proofs.rebuild.Given as goal
 
-abbrev pub invariant-loop-k : goal.invariant-loop-k
-invariant-loop-k l =
-    (l.k ≤ 512)
-    × (l.k % 2 ≡ 0)
-    × (length l.out ≡ 512)
-    × (l.cursor.bit ≡ l.bits * l.k)
-    × Summed l.base (values l.bits l.run) l.out l.x l.k
-
-abbrev pub decreases-loop-k : goal.decreases-loop-k
-decreases-loop-k l = 512 - l.k
+abbrev pub invariant-loop-i : goal.invariant-loop-i
+invariant-loop-i l =
+    (length l.out ≡ 512)
+    × (l.cursor.bit ≡ l.bits * (2 * l.i))
+    × Summed l.base (values l.bits l.run) l.out l.x (2 * l.i)

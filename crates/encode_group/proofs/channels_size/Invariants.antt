@@ -2,12 +2,11 @@
 use mathlib.Core.Path.{◌≡◌}
 use Prim.Native.Nat.{◌≤◌, ◌*◌}
 use lib.ListN.{length}
-use Rattle.lent_samples.specs.Lent.{lent_of, frames_from}
+use Rattle.lent_samples.specs.Lent.{frames_from}
 use Rattle.encode_group.proofs.Blocks.{blocks_before}
 use Rattle.encode_group.proofs.channels_size.Given as goal
 
 abbrev pub invariant-loop-c : goal.invariant-loop-c
-invariant-loop-c l =
-    (l.c ≤ l.p.channels)
-    × (l.size ≡ length (blocks_before l.p.bits_per_sample 0 l.p.channels (frames_from l.p.channels l.first l.n (lent_of l.which l.words l.bytes)) l.c))
+invariant-loop-c g l =
+    (l.size ≡ length (blocks_before l.p.bits_per_sample 0 l.p.channels (frames_from l.p.channels l.first l.n (g.E.Stored.samples l.samples)) l.c))
     × (l.size ≤ l.c * 2064)

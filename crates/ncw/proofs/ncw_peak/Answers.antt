@@ -1,7 +1,6 @@
 -- The answer of reading a pair, as its number, and what the samples and the rest are in bytes.
 use mathlib.Core.Path.{ap}
 use borrow.Author.Rules.{rules}
-use Rattle.lent_samples.specs.Lent.{Rest}
 use Rattle.ncw.proofs.Results.{peak_reads_few}
 use Rattle.ncw.proofs.Peaks.{told_peak, put_peak}
 use Rattle.ncw.proofs.ncw_peak.Goals as goal
@@ -12,7 +11,7 @@ result-requires c = search peak_reads_few
 pub returns : goal.returns
 returns c =
     let x = c.args in
-    let e = c.read_peak_lent-answer.ensures in (
+    let e = c.read_peak-answer.ensures in (
       told_peak x.summary.now x.group x.channel x.pair.now _ _ c.result.ensures e.reads.0,
-      put_peak x.summary.now x.group x.channel x.pair.now _ (λ i. search rules) (λ i. (c.type_inv.pair i).fits) e.reads.1 (ap (λ (r : Rest). r.bytes) e.keeps),
+      put_peak x.summary.now x.group x.channel x.pair.now _ (λ i. search rules) (λ i. (c.type_inv.pair i).fits) e.reads.1 e.keeps,
     )

@@ -1,29 +1,38 @@
-use mathlib.Core.Path.{sym, ◌∙◌}
+use mathlib.Core.Path.{◌∙◌}
 use native.Mathlib.Omega.{arith}
-use borrow.Author.Rules.{rules}
-use Rattle.format.specs.declared.refusals.Refusal.TheVariants.{TemplateBytesLeft}
-use Rattle.laws.proofs.Templates.{template_ok}
-use Rattle.group.proofs.Checking.{passed_none, stops, more, bytes_left, all_fine}
+use Rattle.std.proofs.lemmas.Result.{err_from_is_err_and}
+use Rattle.laws.proofs.Chain.{turns_begin, turn_passes, turn_stops_then, turns_end_then}
+use Rattle.group.proofs.Places.{begins_first, begins_more}
+use Rattle.reencode_group.proofs.Checking.{channel_says, channel_template, none_left}
 use Rattle.reencode_group.proofs.check_channels.Goals as goal
 
 pub loop-c-init : goal.loop-c-init
-loop-c-init c = (search rules, search rules, passed_none _ _ _)
+loop-c-init c = record { begins = begins_first _ _; passed = turns_begin _ }
 
-pub returns-in-No : goal.returns-in-No
-returns-in-No c =
-    stops c.loop-c.invariant.2 c.check_reencode_block.ensures TemplateBytesLeft c.in-No.is (omega arith) c.at_channel.ensures
+pub returns-in_err-in_channel : goal.returns-in_err-in_channel
+returns-in_err-in_channel c =
+    let p = err_from_is_err_and c.from_residual.result c.from_residual.ensures.1 in
+    let i = c.loop-c.invariant in
+    rw (p.1, p.2) (turn_stops_then _ _ i.passed _ _ _ _ (omega arith)
+    (channel_says _ _ _ _ _ _ i.begins.left _ _ c.check_reencode_block.ensures c.in_channel.ensures) c.in_err-in_channel.was)
 
 pub size_of-at-requires : goal.size_of-at-requires
-size_of-at-requires c = ((template_ok _ _ _ (sym c.check_reencode_block.ensures ∙ c.in_default.is)).head, search rules)
+size_of-at-requires c =
+    let i = c.loop-c.invariant in
+    let t = channel_template _ _ _ _ _ _ i.begins.left _ _ c.check_reencode_block.ensures c.in_channel.ensures c.in_ok-in_channel.was in
+    (t.head, omega arith)
 
 pub loop-c-preserved : goal.loop-c-preserved
 loop-c-preserved c =
-    let e = c.in_default.is in
-    let s = c.check_reencode_block.ensures in
-    (search rules, search rules, more c.loop-c.invariant.2 s e (template_ok _ _ _ (sym s ∙ e)).sized c.size_of-at.ensures.0)
-
-pub returns-then-at-bs : goal.returns-then-at-bs
-returns-then-at-bs c = bytes_left c.loop-c.invariant.2 (omega arith) TemplateBytesLeft c.if-at-bs.true
+    let i = c.loop-c.invariant in
+    let e = c.check_reencode_block.ensures in
+    let t = channel_template _ _ _ _ _ _ i.begins.left _ _ e c.in_channel.ensures c.in_ok-in_channel.was in
+    record {
+      begins = begins_more _ _ _ _ _ i.begins t.sized c.size_of-at.ensures.0;
+      passed = turn_passes _ _ i.passed _ (channel_says _ _ _ _ _ _ i.begins.left _ _ e c.in_channel.ensures) c.in_ok-in_channel.was;
+    }
 
 pub returns : goal.returns
-returns c = all_fine c.loop-c.invariant.2 (omega arith) TemplateBytesLeft (omega arith)
+returns c =
+    let i = c.loop-c.invariant in
+    turns_end_then _ _ i.passed _ _ _ (omega arith) (c.refuse.ensures.says ∙ none_left _ _ _ _ i.begins _ (omega arith) _)

@@ -9,7 +9,7 @@ use Rattle.reencode_group.proofs.reencode_channels.Goals as goal
 
 pub loop-c-init : goal.loop-c-init
 unfolding joined
-loop-c-init c = (omega arith, begins_first _ _, refl, refl, over_none _)
+loop-c-init c = record { begins = begins_first _ _; so_far = refl; written = over_none _ }
 
 pub reencode_block-at-requires : goal.reencode_block-at-requires
 reencode_block-at-requires c = search (rules, next_fine, next_fits)
@@ -18,10 +18,13 @@ pub overflow_add-at : goal.overflow_add-at
 overflow_add-at c = search (rules, next_ends)
 
 pub loop-c-preserved : goal.loop-c-preserved
-loop-c-preserved c =
-    (search rules, search (rules, next_begins), search (rules, next_length), search rules, search (rules, next_written))
+loop-c-preserved c = record {
+  begins = search (rules, next_begins);
+  so_far = search (rules, next_length);
+  written = search (rules, next_written);
+}
 
 pub returns : goal.returns
 returns c =
     let e : c.loop-c.c ≡ c.args.channels = omega arith in
-    rw e at c.loop-c.invariant.4
+    rw e at c.loop-c.invariant.written

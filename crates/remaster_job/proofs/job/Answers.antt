@@ -1,10 +1,10 @@
 -- Each stage is given what the stages before it leave, so that their promises go together.
-use Rattle.remaster_job.proofs.Stages.{report_as}
+use Rattle.remaster_job.specs.Reports.{report_of}
 use Rattle.remaster_job.proofs.job.Goals as goal
 
 pub returns : goal.returns
+unfolding report_of
 returns c =
-    let x = c.args in
-    report_as x.h x.file.now x.old.now x.new.now x.out.now x.room.now x.again.now _ _ _ _ _ _ _
-    c.spec_of-p.ensures c.decode_samples-decoded.ensures.1 c.rewrite-rewritten.ensures.halves c.rewrite-rewritten.ensures.puts
-    c.decode_samples-decoded.ensures.0 c.rewrite-rewritten.ensures.says c.read_back.ensures
+    let decoded = c.decode_samples-decoded.ensures in
+    let rewritten = c.rewrite-rewritten.ensures in
+    rw (decoded.decodes.0, rewritten.says, c.read_back.ensures, rewritten.puts, rewritten.halves, decoded.decodes.1, c.spec_of-p.ensures)

@@ -5,4 +5,4 @@ use Rattle.laws.proofs.Stereo.{parity_padded}
 use Rattle.stereo.proofs.frames_parity.Goals as goal
 
 pub returns : goal.returns
-returns c = c.parity.ensures ∙ ap parity c.split.ensures ∙ parity_padded _
+returns g c = c.parity.ensures ∙ ap parity c.split.ensures ∙ parity_padded _

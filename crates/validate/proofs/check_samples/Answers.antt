@@ -1,15 +1,19 @@
--- Each way out is one of the three kinds of count, with the values' check in its place.
-use Rattle.validate.proofs.Ways.{incomplete, whole, outside_first, too_many}
+-- Samples that are incomplete frames are so by the definition's first test, and too many where that fails and its last
+-- one holds.
+use Rattle.std.proofs.Common.{arith}
+use Rattle.format.specs.Units.{frames_in}
+use Rattle.format.specs.Refusals.{refuse, ◌then◌}
+use Rattle.format.specs.Encoding.{check_samples}
 use Rattle.validate.proofs.check_samples.Goals as goal
 
-pub returns-in-No : goal.returns-in-No
-returns-in-No c = search outside_first
+pub returns-in_err-refuse : goal.returns-in_err-refuse
+unfolding check_samples frames_in refuse ◌then◌
+returns-in_err-refuse g c = grind arith
 
-pub returns-in-Incomplete : goal.returns-in-Incomplete
-returns-in-Incomplete c = search incomplete
+pub returns-in_err-refuse-2 : goal.returns-in_err-refuse-2
+unfolding check_samples frames_in refuse ◌then◌
+returns-in_err-refuse-2 g c = grind arith
 
-pub returns-in-Whole : goal.returns-in-Whole
-returns-in-Whole c = search whole
-
-pub returns-in_default : goal.returns-in_default
-returns-in_default c = search too_many
+pub returns : goal.returns
+unfolding check_samples frames_in refuse ◌then◌
+returns g c = grind arith

@@ -1,17 +1,12 @@
 -- The loop's invariant: the first k of the groups have passed. A group's part lies within the file, since it opens.
 use mathlib.Core.Path.{◌≡◌}
-use Prim.Native.Nat.{◌+◌, ◌-◌, ◌≤◌}
+use Prim.Native.Nat.{◌+◌}
 use Rattle.format.specs.Header.{group_bytes}
-use Rattle.format.specs.Refusals.{in_order}
+use Rattle.format.specs.Refusals.{Fine, in_order}
 use Rattle.format.specs.Places.{in_group}
 use Rattle.format.specs.Decoding.{check_group}
-use Rattle.format.specs.declared.refusals.Checked.TheVariants.{Fine}
 use Rattle.groups.proofs.checking.check_groups.Given as goal
 
 abbrev pub invariant-loop-k : goal.invariant-loop-k
 invariant-loop-k l =
-    (l.k ≤ l.count)
-    × (in_order (λ k'. in_group (l.first + k') (check_group l.h l.format (group_bytes l.file l.h (l.first + k')))) l.k ≡ Fine)
-
-abbrev pub decreases-loop-k : goal.decreases-loop-k
-decreases-loop-k l = l.count - l.k
+    in_order (λ k'. in_group (l.first + k') (check_group l.h l.format (group_bytes l.file l.h (l.first + k')))) l.k ≡ Fine

@@ -1,48 +1,25 @@
-use mathlib.Core.Path.{◌≡◌, refl, ◌∙◌}
-use Prim.Native.Nat.{◌<◌}
+-- The next channel's pair and those behind it are the rest of the group's.
+use mathlib.Core.Path.{sym, ap, ◌∙◌}
 use native.Mathlib.Omega.{arith}
 use borrow.Author.Rules.{rules}
-use Rattle.group.proofs.Places.{begins_first}
-use Rattle.group.proofs.Channels.{whole, begins_next}
-use Rattle.peaks.proofs.Parts.{went_none}
-use Rattle.peaks.proofs.Channels.{channel_fits, channel_stops, channel_left, channel_more, channels_found, channels_left}
+use Rattle.std.proofs.lemmas.Grind.{common_steps}
+use Rattle.format.specs.Blocks.{samples_of}
+use Rattle.peaks.proofs.Composed.{runs, halts, halts_left}
+use Rattle.peaks.proofs.Channels.{blocks_around}
 use Rattle.peaks.proofs.passing.pass_channels.Goals as goal
-
-pub loop-c-init : goal.loop-c-init
-loop-c-init c = (search rules, begins_first _ _, refl, went_none _ _ _ _ _)
-
-pub read_block-run-requires : goal.read_block-run-requires
-read_block-run-requires c = search (rules, whole)
 
 pub pass_peak-requires : goal.pass_peak-requires
 pass_peak-requires c =
-    let i = c.loop-c.invariant in
-    channel_fits _ _ _ _ c.requires.0 _ _ _ _ _ _ _ i.3 _ i.1 c.loop-c-test.true _ c.read_block-run.ensures _ c.peak_of.ensures c.requires.1 c.requires.4
+    let x = c.args in
+    let e = blocks_around x.h x.format x.n x.bs.now c.requires.0 c.requires.1 c.loop.counter (search rules) in
+    (grind (arith, common_steps), grind (arith, runs, e))
 
-pub returns-in_default : goal.returns-in_default
-returns-in_default c =
-    let i = c.loop-c.invariant in (
-      channel_stops _ _ _ _ c.requires.0 _ _ _ _ _ _ _ i.3 _ i.1 c.loop-c-test.true _ c.read_block-run.ensures _ c.peak_of.ensures c.requires.1 _ c.pass_peak.ensures.0 (search rules),
-      channel_left _ _ _ _ c.requires.0 _ _ _ _ _ _ _ i.3 _ i.1 c.loop-c-test.true _ c.read_block-run.ensures _ c.peak_of.ensures c.requires.1 _ c.pass_peak.ensures.0 (search rules) _ c.pass_peak.ensures.1,
-    )
-
-pub size_of-block-requires : goal.size_of-block-requires
-size_of-block-requires c =
-    let w = whole _ _ _ c.requires.0 _ _ c.loop-c.invariant.1 c.loop-c-test.true in
-    (w.header, w.most)
-
-pub loop-c-preserved : goal.loop-c-preserved
-loop-c-preserved c =
-    let i = c.loop-c.invariant in
-    let below : c.loop-c.c < c.args.h.channels = search rules in (
-      omega arith,
-      begins_next _ _ _ c.requires.0 _ _ i.1 below _ c.size_of-block.ensures.0,
-      c.pass_peak.auto.out ∙ i.2,
-      channel_more _ _ c.args.n _ c.requires.0 _ _ _ _ _ _ _ i.3 _ i.1 below _ c.read_block-run.ensures _ c.peak_of.ensures _ c.pass_peak.ensures.0 _ c.in-On.is _ c.pass_peak.ensures.1,
-    )
-
-pub returns : goal.returns
-returns c =
-    let i = c.loop-c.invariant in
-    let e : c.loop-c.c ≡ c.args.h.channels = omega arith in
-    (channels_found _ _ _ _ c.requires.0 _ _ _ _ _ _ _ i.3 c.requires.1 e, channels_left _ _ _ _ c.requires.0 _ _ _ _ _ _ _ i.3 c.requires.1 e)
+pub returns-in_err-at : goal.returns-in_err-at
+returns-in_err-at c =
+    let x = c.args in
+    let i = c.loop.invariant in
+    let p = c.pass_peak.ensures in
+    let run = c.read_block-run.ensures ∙ ap (samples_of x.h.depth) i.0 in
+    let e = blocks_around x.h x.format x.n x.bs.now c.requires.0 c.requires.1 c.loop.counter (search rules) in
+    let stop = sym p.0 ∙ c.in_err-at.was in
+    rw (c.from_residual.ensures, e, ← run) (halts _ _ _ _ _ _ _ i.1 stop, halts_left _ _ _ _ _ _ _ i.1 stop _ _ _ i.2 p.1)

@@ -1,15 +1,15 @@
--- The loop's invariant: channel c's block begins at `block`, and the pass went over the pairs of the channels before it.
+-- The loop's invariant: what is left begins with channel c's block, and the pass went over the pairs of the channels
+-- before it.
 use mathlib.Core.Path.{◌≡◌}
-use Prim.Native.Nat.{◌-◌, ◌≤◌}
-use lib.ListN.{length}
-use Rattle.group.proofs.Places.{Begins}
-use Rattle.peaks.proofs.Parts.{Went}
-use Rattle.peaks.proofs.Channels.{coded_pair}
+use Rattle.std.specs.Prelude.{Some}
+use Rattle.format.specs.Blocks.{from_block}
+use Rattle.peaks.specs.Passes.{found, left}
+use Rattle.peaks.proofs.Channels.{block_pairs}
 use Rattle.peaks.proofs.passing.pass_channels.Given as goal
 
-abbrev pub invariant-loop-c : goal.invariant-loop-c
-invariant-loop-c l =
-    (l.c ≤ l.h.channels) × Begins l.h.depth l.bs l.c l.block × (length l.out ≡ length l.initial.out) × Went l.pass l.start (coded_pair l.h l.n l.bs) l.held l.initial.out l.c l.at l.out
-
-abbrev pub decreases-loop-c : goal.decreases-loop-c
-decreases-loop-c l = l.h.channels - l.c
+abbrev pub invariant-loop : goal.invariant-loop
+invariant-loop l =
+    let c = l.counter in
+    (l.blocks ≡ from_block l.h.depth l.bs c)
+    × (found l.pass l.start (block_pairs l.h l.n l.bs c) l.held ≡ Some l.at)
+    × (l.out ≡ left l.pass l.start (block_pairs l.h l.n l.bs c) l.initial.out)

@@ -9,6 +9,3 @@ use Rattle.seven_bits.proofs.reading.number_at.Given as goal
 
 abbrev pub invariant-loop-k : goal.invariant-loop-k
 invariant-loop-k l = (l.k ≤ seven_length l.s) × (l.value ≡ num 128 (drop l.k (lows l.s)))
-
-abbrev pub decreases-loop-k : goal.decreases-loop-k
-decreases-loop-k l = l.k

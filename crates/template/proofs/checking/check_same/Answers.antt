@@ -1,24 +1,10 @@
--- The four tests are the definition's, in its order.
+use Rattle.std.proofs.lemmas.Result.{err_from_is_err_and}
 use Rattle.format.specs.Reencoding.{check_same}
-use Rattle.laws.proofs.Chain.{chain}
+use Rattle.laws.proofs.Chain.{stops_with}
 use Rattle.template.proofs.checking.check_same.Goals as goal
 
-pub returns-then-h-p : goal.returns-then-h-p
+pub returns-in_err-refuse : goal.returns-in_err-refuse
 unfolding check_same
-returns-then-h-p c = search chain
-
-pub returns-then-h-p-2 : goal.returns-then-h-p-2
-unfolding check_same
-returns-then-h-p-2 c = search chain
-
-pub returns-then-h-p-3 : goal.returns-then-h-p-3
-unfolding check_same
-returns-then-h-p-3 c = search chain
-
-pub returns-then-h-frames : goal.returns-then-h-frames
-unfolding check_same
-returns-then-h-frames c = search chain depth 8
-
-pub returns : goal.returns
-unfolding check_same
-returns c = search chain depth 8
+returns-in_err-refuse c =
+    let p = err_from_is_err_and c.from_residual.result c.from_residual.ensures.1 in
+    rw (p.1, p.2) (stops_with _ _ c.refuse.ensures.says _ _ c.in_err-refuse.was)

@@ -1,23 +1,12 @@
--- A group that differs ends the loop; past the last group none does.
+-- A group that differs ends the loop.
 use native.Mathlib.Omega.{arith}
-use borrow.Author.Rules.{rules}
-use Rattle.laws.proofs.Reading.{order_none, order_whole, test_ends, test_more}
-use Rattle.writer.proofs.Groups.{frames_some, frames_inside, differs_here, differs_not}
+use Rattle.std.proofs.lemmas.Result.{err_from_is_err_and}
+use Rattle.laws.proofs.Chain.{turn_stops}
+use Rattle.group.proofs.Frames.{group_frames}
 use Rattle.writer.proofs.checking.check_parity.Goals as goal
 
-pub loop-g-init : goal.loop-g-init
-loop-g-init c = (search rules, order_none _)
-
-pub frames_parity-requires : goal.frames_parity-requires
-frames_parity-requires c = (search frames_some, search rules, search frames_inside)
-
-pub returns-else-frames_parity : goal.returns-else-frames_parity
-returns-else-frames_parity c =
-    test_ends _ _ _ c.loop-g.invariant.1 _ _ c.groups-groups.ensures.0 c.loop-g-test.true (search differs_here) _ c.at_group.ensures
-
-pub loop-g-preserved : goal.loop-g-preserved
-loop-g-preserved c =
-    (search rules, test_more _ _ _ c.loop-g.invariant.1 (search differs_not))
-
-pub returns : goal.returns
-returns c = order_whole _ _ _ _ c.groups-groups.ensures.0 c.loop-g.invariant.1 (omega arith)
+pub returns-in_err-in_group : goal.returns-in_err-in_group
+returns-in_err-in_group g c =
+    let p = err_from_is_err_and c.from_residual.result c.from_residual.ensures.1 in
+    let h = group_frames _ _ _ c.requires c.loop-g.g _ c.active-n.ensures.0 in
+    rw (p.1, p.2) (turn_stops _ _ c.loop-g.invariant _ _ _ (omega arith) (rw (← h, ← c.frames_parity-is_equal.ensures, ← c.refuse.ensures.says) c.in_group.ensures) c.in_err-in_group.was)

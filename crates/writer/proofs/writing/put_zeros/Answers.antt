@@ -1,10 +1,6 @@
--- Each turn writes one zero behind the others.
-use borrow.Author.Rules.{rules}
-use Rattle.writer.proofs.Heading.{zeros_more, zeros_all}
+-- Bytes 32 to 119 are 88 of them.
+use Rattle.writer.proofs.Heading.{zeros_put}
 use Rattle.writer.proofs.writing.put_zeros.Goals as goal
 
 pub returns : goal.returns
-returns c = search zeros_all
-
-pub loop-i-preserved : goal.loop-i-preserved
-loop-i-preserved c = (search rules, search rules, search rules, search zeros_more)
+returns c = zeros_put c.args.out.now c.fill.new.self 32 88 c.requires (c.fill.ensures.after (λ y h. h))

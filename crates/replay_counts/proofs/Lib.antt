@@ -1,2 +1,0 @@
--- what the two tallies leave
-pub mod Laws

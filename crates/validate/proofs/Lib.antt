@@ -1,2 +1,0 @@
--- what each function answers at each way out
-pub mod Ways
