@@ -27,8 +27,11 @@ module _ (b : ℕ) (s : List ℕ) where
   value_at k p v low high l q e =
       value_is v b (num 256 s / 2 ^ p) low high e ∙ ap (λ (x : ℕ). value b (bits_at (num 256 s) x b)) q ∙ sym (values_at b s k l)
 
-  pub first_value_lem : (i p : ℕ) (r : Pair) → 1 ≤ b → b ≤ 32 → i < 256 → p ≡ b * (2 * i) → ReadTwo s p b r → to_z w32 (of_z w32 r.first) ≡ get_or (values b s) (2 * i) (pos 0)
-  first_value_lem i p r low high l q e = value_at (2 * i) p r.first low high (omega arith) q e.first
+  pub first_value_lem : (k p : ℕ) (r : Pair) → 1 ≤ b → b ≤ 32 → k < 512 → p ≡ b * k → ReadTwo s p b r → to_z w32 (of_z w32 r.first) ≡ get_or (values b s) k (pos 0)
+  first_value_lem k p r low high l q e = value_at k p r.first low high l q e.first
+
+  pub first_value_pair : (i p : ℕ) (r : Pair) → 1 ≤ b → b ≤ 32 → i < 256 → p ≡ b * (2 * i) → ReadTwo s p b r → to_z w32 (of_z w32 r.first) ≡ get_or (values b s) (2 * i) (pos 0)
+  first_value_pair i p r low high l q e = first_value_lem (2 * i) p r low high (omega arith) q e
 
   pub second_value : (i p : ℕ) (r : Pair) → 1 ≤ b → b ≤ 32 → i < 256 → p ≡ b * (2 * i) → ReadTwo s p b r → to_z w32 (of_z w32 r.second) ≡ get_or (values b s) (2 * i + 1) (pos 0)
   second_value i p r low high l q e = value_at (2 * i + 1) (p + b) r.second low high (omega arith) (omega (arith, q, mul-add b (2 * i) 1)) e.second
@@ -58,7 +61,13 @@ module _ (b : ℕ) (s : List ℕ) where
       let most : 2 * i + 2 ≤ 512 = omega arith in
       record { low = l; high = u; whole = e; fits = omega (arith, mul-le-mul_left b most, mul-add b (2 * i) 2) }
 
-  pub next_place : (i p : ℕ) (r : Pair) → p ≡ b * (2 * i) → ReadTwo s p b r → r.cursor.bit ≡ b * (2 * (i + 1))
-  next_place i p r e q = omega (arith, e, q.moved, mul-add b (2 * i) 2)
+  pub next_place : (k p : ℕ) (r : Pair) → p ≡ b * k → ReadTwo s p b r → r.cursor.bit ≡ b * (k + 2)
+  next_place k p r e q = omega (arith, e, q.moved, mul-add b k 2)
+
+  -- the same at turn i
+  pub next_pair : (i p : ℕ) (r : Pair) → p ≡ b * (2 * i) → ReadTwo s p b r → r.cursor.bit ≡ b * (2 * (i + 1))
+  next_pair i p r e q =
+      let two : 2 * i + 2 ≡ 2 * (i + 1) = omega arith in
+      next_place (2 * i) p r e q ∙ ap (λ (n : ℕ). b * n) two
 
 pub ruleset turn = (room, all_done)

@@ -10,7 +10,7 @@ use lib.Seq.{take_all}
 use Rattle.format.specs.Numbers.{plus}
 use Rattle.format.specs.Packed.{rebuilt}
 use Rattle.laws.proofs.Lengths.{length_values}
-use Rattle.bits.proofs.Run.{room, next_place}
+use Rattle.bits.proofs.Run.{room, next_pair}
 use Rattle.laws.proofs.Parts.{left_now, done_more}
 
 -- ---- running sums of the values vs: x is sample k
@@ -26,12 +26,20 @@ module _ (base : ℤ) (vs : List ℤ) where
       ∙ ap (λ (t : List ℤ). take k out ++ rebuilt x t) (sym (left_now vs k (pos 0) l))
       ∙ p
 
-  pub summed_two : (out : List ℤ) (x y z : ℤ) (i : ℕ) → i < 256 → length out ≡ 512 → length vs ≡ 512 → y ≡ plus x (get_or vs (2 * i) (pos 0)) → z ≡ plus y (get_or vs (2 * i + 1) (pos 0))
+  pub summed_two : (out : List ℤ) (x y z : ℤ) (k : ℕ) → k + 1 < length out → k + 1 < length vs → y ≡ plus x (get_or vs k (pos 0)) → z ≡ plus y (get_or vs (k + 1) (pos 0)) → Summed out x k
+      → Summed (set (set out k x) (k + 1) y) z (k + 2)
+  summed_two out x y z k h l e f p =
+      let two : k + 1 + 1 ≡ k + 2 = omega arith in
+      subst (Summed (set (set out k x) (k + 1) y) z) two
+      (summed_more (set out k x) y z (k + 1) (simp length-set h) l f (summed_more out x y k (omega arith) (omega arith) e p))
+
+  -- the same at a turn of the loop over pairs
+  pub summed_pair : (out : List ℤ) (x y z : ℤ) (i : ℕ) → i < 256 → length out ≡ 512 → length vs ≡ 512 → y ≡ plus x (get_or vs (2 * i) (pos 0)) → z ≡ plus y (get_or vs (2 * i + 1) (pos 0))
       → Summed out x (2 * i) → Summed (set (set out (2 * i) x) (2 * i + 1) y) z (2 * (i + 1))
-  summed_two out x y z i h l m e f p =
-      let two : 2 * i + 1 + 1 ≡ 2 * (i + 1) = omega arith in
+  summed_pair out x y z i h l m e f p =
+      let two : 2 * i + 2 ≡ 2 * (i + 1) = omega arith in
       subst (Summed (set (set out (2 * i) x) (2 * i + 1) y) z) two
-      (summed_more (set out (2 * i) x) y z (2 * i + 1) (simp length-set (omega arith)) (omega arith) f (summed_more out x y (2 * i) (omega arith) (omega arith) e p))
+      (summed_two out x y z (2 * i) (omega arith) (omega arith) e f p)
 
   pub summed_all : (out : List ℤ) (x : ℤ) (k : ℕ) → length out ≤ k → length vs ≤ k → Summed out x k → out ≡ rebuilt base vs
   unfolding rebuilt
@@ -40,4 +48,4 @@ module _ (base : ℤ) (vs : List ℤ) where
       ∙ ap₂ (λ (a b : List ℤ). a ++ rebuilt x b) (sym (take_all k out h)) (sym (drop_of_length-le vs l))
       ∙ p
 
-pub ruleset turn = (room, next_place, length_values, summed_all)
+pub ruleset turn = (room, next_pair, length_values, summed_all)

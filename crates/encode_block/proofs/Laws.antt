@@ -21,7 +21,7 @@ use Rattle.encode_block.specs.Front.{front}
 -- ---- the header
 
 module _ (base : ℤ) (bits flags : ℕ) where
-  length_front : length (front base bits flags) ≡ 16
+  pub length_front : length (front base bits flags) ≡ 16
   unfolding front block_mark le digits
   length_front = refl
 

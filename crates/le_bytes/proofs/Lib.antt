@@ -1,2 +1,3 @@
--- the bytes of a number, read and put
+-- the bytes of a number, read and put; a run copied
 pub mod Laws
+pub mod Copying

@@ -1,4 +1,4 @@
--- Samples in bytes, four to a sample: how many there are, what each is, and what a store does.
+-- Samples in bytes, four to a sample: how many there are, what each is, and what a store does. And samples in words.
 use mathlib.Core.Path.{◌≡◌, refl, sym, ap, ◌∙◌}
 use mathlib.Core.List.{List, [], ◌∷◌, append_assoc}
 use Prim.Native.Nat.{ℕ, suc, ◌+◌, ◌-◌, ◌*◌, ◌/◌, ◌^◌, ◌<◌, ◌≤◌}
@@ -17,6 +17,7 @@ use Rattle.laws.proofs.Parts.{length_tab, get_d_tab, is_tab}
 use Rattle.laws.proofs.Digits.{length_le, num_at_lem}
 use Rattle.laws.proofs.Signs.{value_code}
 use Rattle.lent_samples.specs.Lent.{bytes_behind}
+use Rattle.lent_samples.specs.Containers.{Container, Words, lent_of, rest_of}
 
 -- ---- a run of stores, and the parts beside it
 module _ {A : Type 0} where
@@ -65,7 +66,7 @@ module _ (b : List ℕ) (i n : ℕ) (h : i < length b / 4) where
       ]
 
   -- four bytes stored are one sample stored
-  lent_put : n < 2 ^ 32 → samples_from b' ≡ set (samples_from b) i (value 32 n)
+  pub lent_put : n < 2 ^ 32 → samples_from b' ≡ set (samples_from b) i (value 32 n)
   unfolding samples_from
   lent_put f =
       is_tab (pos 0) (length b' / 4) (λ k. value 32 (num_at (4 * k) 4 b')) (set (samples_from b) i (value 32 n))
@@ -79,7 +80,7 @@ module _ (b : List ℕ) (i n : ℕ) (h : i < length b / 4) where
             | no e ↦ get_or-set_other (samples_from b) i k (value 32 n) (pos 0) e ∙ lent_at b k (omega (arith, length-sets b (i * 4) (le 4 n))) ∙ ap (value 32) (number_other k e)
           ]
 
-  rest_put : bytes_behind b' ≡ bytes_behind b
+  pub rest_put : bytes_behind b' ≡ bytes_behind b
   rest_put = rw (length-sets b (i * 4) (le 4 n)) (drop_sets (le 4 n) b (i * 4) (length b / 4 * 4) (omega (arith, four)))
 
 -- ---- sample i by a call that reads four bytes, or stores them
@@ -100,3 +101,24 @@ module _ (b : List ℕ) (i : ℕ) (h : i < length (samples_from b)) where
 
     pub bytes_keep : bytes_behind b'' ≡ bytes_behind b
     bytes_keep = rw stored (rest_put b i n among)
+
+-- ---- either container, where it is words
+module _ {k : Container} (w : List ℤ) (b : List ℕ) where
+  pub in_words : k ≡ Words → lent_of k w b ≡ w
+  in_words e = rw e
+
+  pub count_words : k ≡ Words → length w ≡ length (lent_of k w b)
+  count_words e = rw (in_words e)
+
+  module _ (i : ℕ) (h : i < length (lent_of k w b)) where
+    pub word_in : k ≡ Words → i < length w
+    word_in e = rw (in_words e) at h
+
+    pub words_say : k ≡ Words → get_or w i (pos 0) ≡ get_or (lent_of k w b) i (pos 0)
+    words_say e = rw e
+
+    pub words_put : k ≡ Words → (v : ℤ) → lent_of k (set w i v) b ≡ set (lent_of k w b) i v
+    words_put e v = rw e
+
+    pub words_keep : k ≡ Words → (v : ℤ) → rest_of k (set w i v) b ≡ rest_of k w b
+    words_keep e v = rw e

@@ -1,4 +1,4 @@
--- Lent bytes are determined by the samples in them and by what lies behind: two outcomes with the same of both are one.
+-- What is lent is determined by the samples in it and by what is lent besides: two outcomes with the same of both are one.
 use Prim.Native.Nat.{ℕ, ◌*◌, ◌/◌, ◌<◌, ◌≤◌}
 use mathlib.Core.Path.{◌≡◌, sym, ap, ap₂, ◌∙◌}
 use mathlib.Core.List.{List, ◌++◌, append_assoc}
@@ -13,6 +13,7 @@ use Rattle.laws.proofs.Parts.{tab_cong, from_within}
 use Rattle.laws.proofs.Each.{each_take}
 use Rattle.laws.proofs.SampleBytes.{sample_bytes_length, sample_bytes_append, sample_bytes_drop, bytes_back}
 use Rattle.lent_samples.specs.Lent.{bytes_behind}
+use Rattle.lent_samples.specs.Containers.{Container, Words, Bytes, lent_of, rest_of}
 use Rattle.lent_samples.proofs.Laws.{length_lent}
 
 -- the bytes of the whole samples
@@ -59,3 +60,7 @@ bytes_over xs b d hb hd room p q =
     ∙ ap₂ (λ (x y : List ℕ). x ++ y) samples q
     ∙ append_assoc (sample_bytes xs) (drop n (front b)) (bytes_behind b)
     ∙ ap (λ (ys : List ℕ). sample_bytes xs ++ ys) (sym behind)
+
+pub one_outcome : (k : Container) (w v : List ℤ) (b d : List ℕ) → Below 256 b → Below 256 d → lent_of k w b ≡ lent_of k v d → rest_of k w b ≡ rest_of k v d → (w ≡ v) × (b ≡ d)
+one_outcome Words w v b d hb hd p q = (p, ap (λ r. r.bytes) q)
+one_outcome Bytes w v b d hb hd p q = (ap (λ r. r.words) q, same_bytes b d hb hd p (ap (λ r. r.bytes) q))

@@ -1,6 +1,6 @@
 -- Padding, as a loop comes to it.
 use mathlib.Core.Path.{◌≡◌, refl, sym, ap, ap₂, ◌∙◌}
-use mathlib.Core.List.{List, [], ◌∷◌, ◌++◌, append_assoc}
+use mathlib.Core.List.{List, [], ◌∷◌, ◌++◌, append_assoc, append-nil}
 use Prim.Native.Nat.{ℕ, suc, ◌+◌, ◌-◌, ◌<◌, ◌≤◌}
 use native.Mathlib.Omega.{arith}
 use native.Mathlib.Numerals.{add-one}
@@ -11,13 +11,16 @@ use Rattle.format.specs.Lists.{last_or}
 use Rattle.format.specs.Encoding.{padded}
 
 module _ {A : Type 0} where
-  last_at : (d z : A) (xs : List A) → 0 < length xs → last_or d xs ≡ get_or xs (length xs - 1) z
+  pub last_at : (d z : A) (xs : List A) → 0 < length xs → last_or d xs ≡ get_or xs (length xs - 1) z
   unfolding last_or
   last_at d z [] h = absurd (omega arith)
   last_at d z (x ∷ []) h = refl
   last_at d z (x ∷ y ∷ l) h =
       let e : length (x ∷ y ∷ l) - 1 ≡ suc (length (y ∷ l) - 1) = omega arith in
       last_at x z (y ∷ l) (omega arith) ∙ ap (λ (k : ℕ). get_or (x ∷ y ∷ l) k z) (sym e)
+
+  pub pad_none : (run : List A) (n : ℕ) (v : A) → take n run ≡ take n run ++ replicate (n - n) v
+  pad_none run n v = let e : n - n ≡ 0 = omega arith in rw (e, append-nil)
 
   -- one place more is padded
   pub pad_turn : (out front : List A) (n k : ℕ) (v : A) → n ≤ k → k < length out → take k out ≡ front ++ replicate (k - n) v

@@ -13,7 +13,8 @@ use lib.ListN.{length, get_or, take, drop}
 use lib.Seq.{length-take-le, get_or-take, get_or-drop, ext_get_or}
 use lib.Signed.{lt_z, le_z, mag}
 use mir.Syntax.{w32}
-use mir.Val.{to_z, of_z}
+use mir.Val.{to_z, of_z, SFits}
+use mir.ValLaws.{to_z-of_z}
 use Rattle.format.specs.Lists.{tab, from, every}
 use Rattle.format.specs.Units.{lowest, highest, within}
 use Rattle.format.specs.Encoding.{channel, padded, padded_channels}
@@ -41,13 +42,22 @@ le_z_lt_z (pos a) (negsuc b) = refl
 le_z_lt_z (negsuc a) (pos b) = refl
 le_z_lt_z (negsuc a) (negsuc b) = leb_ltb b a
 
-within_is : (d : Depth) (s : List ℤ) {lo hi : ℤ} → lo ≡ lowest d → hi ≡ highest d → every (between lo hi) s ≡ every (within d) s
+module _ {x lo : ℤ} (hi : ℤ) (f : SFits w32 x) (g : SFits w32 lo) where
+  lower : {t : Bool} → lt_z (to_z w32 (of_z w32 x)) (to_z w32 (of_z w32 lo)) ≡ t → le_z lo x ≡ not t
+  lower e = le_z_lt_z x lo ∙ ap not (sym (ap₂ lt_z (to_z-of_z w32 x f) (to_z-of_z w32 lo g)) ∙ e)
+
+  pub below_lowest : lt_z (to_z w32 (of_z w32 x)) (to_z w32 (of_z w32 lo)) ≡ true → false ≡ between lo hi x
+  below_lowest e = rw (lower e)
+
+  pub up_to_highest : SFits w32 hi → lt_z (to_z w32 (of_z w32 x)) (to_z w32 (of_z w32 lo)) ≡ false → le_z (to_z w32 (of_z w32 x)) (to_z w32 (of_z w32 hi)) ≡ between lo hi x
+  up_to_highest h e = rw (lower e, to_z-of_z w32 x f, to_z-of_z w32 hi h)
+
+pub within_is : (d : Depth) (s : List ℤ) {lo hi : ℤ} → lo ≡ lowest d → hi ≡ highest d → every (between lo hi) s ≡ every (within d) s
 unfolding within
 within_is d s p q = ap₂ (λ (lo hi : ℤ). every (between lo hi) s) p q
 
-pub within_turn : (lo hi : ℤ) (s : List ℤ) (i : ℕ) (ok : Bool) {x : ℤ} {o : Bool} → i < length s → mag x < 2 ^ 31 → x ≡ get_or s i (pos 0)
-    → o ≡ between lo hi (to_z w32 (of_z w32 x)) → (ok && every (between lo hi) (drop i s)) ≡ every (between lo hi) s
-    → ((ok && o) && every (between lo hi) (drop (i + 1) s)) ≡ every (between lo hi) s
+pub within_turn : (lo hi : ℤ) (s : List ℤ) (i : ℕ) {t : Bool} (ok : Bool) {x : ℤ} {o : Bool} → i < length s → mag x < 2 ^ 31 → x ≡ get_or s i (pos 0)
+    → o ≡ between lo hi (to_z w32 (of_z w32 x)) → (ok && every (between lo hi) (drop i s)) ≡ t → ((ok && o) && every (between lo hi) (drop (i + 1) s)) ≡ t
 within_turn lo hi s i ok h f e p q = every_turn (between lo hi) s i (pos 0) ok h (p ∙ ap (between lo hi) (given f e)) q
 
 pub within_done : (d : Depth) (s : List ℤ) (i : ℕ) (ok : Bool) {lo hi : ℤ} → length s ≤ i → lo ≡ lowest d → hi ≡ highest d

@@ -1,3 +1,4 @@
--- What the proofs share: what opening's checks tell, and where the groups of a file that opens lie.
+-- What the proofs share: the first block, what opening's checks tell, and where the groups of a file that opens lie.
+pub mod FirstBlock
 pub mod Ways
 pub mod Groups

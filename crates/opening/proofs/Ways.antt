@@ -1,6 +1,6 @@
 -- What opening's checks tell of the bytes that are read next: that they are there.
 use Prim.Native.Nat.{ℕ, ◌+◌, ◌*◌, ◌/◌, ◌%◌, ◌≤◌}
-use mathlib.Core.Path.{◌≡◌, refl}
+use mathlib.Core.Path.{◌≡◌, refl, sym, ◌∙◌}
 use mathlib.Core.List.{List}
 use native.Mathlib.Omega.{arith}
 use lib.ListN.{length}
@@ -9,10 +9,10 @@ use borrow.Author.Tests.{ne_eqb}
 use borrow.Author.Rules.{part_to_end}
 use Rattle.format.specs.Header.{fields_of, groups_of}
 use Rattle.format.specs.Blocks.{float_bit}
-use Rattle.format.specs.Refusals.{Fine}
+use Rattle.format.specs.Refusals.{Checked, Fine}
 use Rattle.format.specs.Opening.{check_open}
 use Rattle.laws.proofs.Chain.{settled, stops_at, passes_on}
-use Rattle.laws.proofs.Opened.{data_past, data_within, first_within, opened_fields, opened_offsets, opened_table}
+use Rattle.laws.proofs.Opened.{data_past, data_within, first_within, opened_long, opened_fields, opened_offsets, opened_table}
 use Rattle.block.specs.Read.{block_header}
 
 -- while they are made
@@ -25,6 +25,11 @@ module _ (s : List ℕ) (opens : check_open s ≡ Fine) where
 
   pub first_there : (groups_of (fields_of s).frames ≡ 0 → ⊥) → (fields_of s).start + 16 ≤ length s
   first_there = first_within s (fields_of s) (opened_fields s opens) (opened_offsets s opens) (opened_table s opens)
+
+-- its numbers, once the checks have passed
+module _ (s : List ℕ) (a : Checked) (checked : a ≡ check_open s) where
+  pub fields_there : a ≡ Fine → 32 ≤ length s
+  fields_there t = omega (arith, opened_long s (sym checked ∙ t))
 
 -- its float bit, by the header's flags
 pub float_is : (r : List ℕ) → float_bit r ≡ eqb ((block_header r).flags / 2 % 2) 1

@@ -9,6 +9,7 @@ use native.Mathlib.Omega.{arith}
 use lib.Dec.{ltb}
 use lib.IntN.{ℤ, pos}
 use lib.ListN.{length, get_or, drop, drop_of_length-le}
+use lib.Pow.{pow_pos}
 use lib.Bits.{bit_or, or_lt, or_add_and, and_le_l, and_le_r}
 use lib.Signed.{mag}
 use mir.Syntax.{w32}
@@ -48,6 +49,9 @@ or_below k m f = by (ltb m (2 ^ k)) (ltb f (2 ^ k)) refl refl
 module _ (vs : List ℤ) where
   abbrev pub SoFar : ℕ → ℕ → Type 0
   SoFar m i = (b : ℕ) → (holds b (pos m) && every (holds b) (drop i vs)) ≡ every (holds b) vs
+
+  pub so_far_none : SoFar 0 0
+  so_far_none b = ap (λ (t : Bool). t && every (holds b) vs) (lt-ltb 0 (2 ^ (b - 1)) (pow_pos (b - 1)))
 
   pub so_far_more : (m i f : ℕ) → i < length vs → f ≡ mag (get_or vs i (pos 0)) → SoFar m i → SoFar (bit_or m f) (i + 1)
   unfolding every

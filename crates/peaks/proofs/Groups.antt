@@ -31,7 +31,7 @@ pub decode_fields : (s : List ℕ) → check_decode s ≡ Fine → 32 ≤ length
 decode_fields s fine = omega (arith, opened_long s (decode_opens s fine))
 
 -- the pairs of group g, and those behind it
-abbrev pairs_at : List ℕ → Fields → SampleFormat → ℕ → List ℕ
+abbrev pub pairs_at : List ℕ → Fields → SampleFormat → ℕ → List ℕ
 pairs_at s h f g = group_pairs h f (active h.frames g) (group_bytes s h g)
 
 unfoldable pub groups_behind : List ℕ → Fields → SampleFormat → ℕ → List ℕ

@@ -1,4 +1,6 @@
 // The job, and its report line by line. The first refusal is the last line.
+ghost use Rattle.std.specs.Prelude.{◌≡◌, replicate, pos};
+
 use crate::MOST_BYTES;
 use crate::text::print_done;
 use format::{Header, Outcome};
@@ -8,6 +10,13 @@ use std::io;
 
 // The most samples that are taken.
 const MOST_SAMPLES: usize = 131072;
+
+// Room for so many.
+fn room() -> [i32; MOST_SAMPLES]
+    ensures { result ≡ replicate 131072 (pos 0) }
+{
+    [0; MOST_SAMPLES]
+}
 
 // This and the next say whether there was no refusal.
 fn print_restored(rt: &impl Print, restored: Restored) -> io::Result<bool> {
@@ -76,9 +85,9 @@ fn run_opened(rt: &impl Print, file: &[u8], h: Header, out: &mut [u8]) -> io::Re
     if MOST_SAMPLES < n {
         return println!(rt; "too large");
     }
-    let mut old = [0; MOST_SAMPLES];
-    let mut new = [0; MOST_SAMPLES];
-    let mut read = [0; MOST_SAMPLES];
+    let mut old = room();
+    let mut new = room();
+    let mut read = room();
     let mut again = [0; MOST_BYTES];
     let report = remaster_job::job(
         file,

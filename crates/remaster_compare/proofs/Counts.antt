@@ -1,5 +1,5 @@
 -- How many of so many places have a test, place by place.
-use Rattle.std.proofs.Common.{◌≡◌, ℕ, zero, suc, ◌+◌, ◌<◌, ◌≤◌, Bool, true, false, cond, refl, ap, ◌∙◌, add-one, arith}
+use Rattle.std.proofs.Common.{◌≡◌, ℕ, zero, suc, ◌+◌, ◌-◌, ◌<◌, ◌≤◌, Bool, true, false, cond, refl, ap, ◌∙◌, add-one, arith}
 use Rattle.std.specs.List.{range_with_len}
 use Rattle.std.proofs.lemmas.List.{map-id}
 use Rattle.std.proofs.lemmas.List.Sums.{count_by-le-length}
@@ -15,6 +15,13 @@ module _ (test : ℕ → Bool) (start : ℕ) where
   -- one place more
   pub count_turn : (n : ℕ) → count_of test start (n + 1) ≡ count_of test start n + cond (test (start + n)) 1 0
   count_turn n = simp map-id at (sum_by-map-range_with_len_more (λ k. cond (test k) 1 0) (λ k. k) start n (start + n) refl)
+
+  -- the same, by the place
+  pub count_next : (i : ℕ) → start ≤ i → count_of test start (i + 1 - start) ≡ count_of test start (i - start) + cond (test i) 1 0
+  count_next i h =
+      let m : i + 1 - start ≡ (i - start) + 1 = omega arith in
+      let p : start + (i - start) ≡ i = omega arith in
+      ap (count_of test start) m ∙ rw p at (count_turn (i - start))
 
   last : (n : ℕ) → count_of test start (suc n) ≡ count_of test start n + cond (test (start + n)) 1 0
   last n = rw add-one at (count_turn n)

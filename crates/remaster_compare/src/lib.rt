@@ -46,11 +46,19 @@ fn is_same_sample(a: &[i32], b: &[i32], i: usize) -> bool
     i < a.len() && i < b.len() && a[i] == b[i]
 }
 
-// How many bytes from `start` on, before `end`, are the same in both.
+// How many bytes from `start` on, before `end`, are the same in both. A loop here and in `count_samples`: by `filter`
+// and `count` it takes two and a half times as long.
+#[tactic(auto, using(crate::proofs::Counts::count_next, crate::proofs::Counts::count_most))]
 fn count_bytes(old: &[u8], new: &[u8], start: usize, end: usize) -> usize
     ensures { result ≡ count_of (same_byte old.now new.now) start (end - start) }
 {
-    (start..end).filter(|i| is_same_byte(old, new, *i)).count()
+    let mut same: usize = 0;
+    for i in start..end {
+        if is_same_byte(old, new, i) {
+            same += 1;
+        }
+    }
+    same
 }
 
 // Counts the bytes from `start` on, before `end`, that are the same in both.
@@ -64,10 +72,17 @@ pub fn same_bytes(old: &[u8], new: &[u8], start: usize, end: usize) -> Count
 }
 
 // How many of the first n samples are the same in both.
+#[tactic(auto, using(crate::proofs::Counts::count_turn, crate::proofs::Counts::count_most))]
 fn count_samples(a: &[i32], b: &[i32], n: usize) -> usize
     ensures { result ≡ count_of (same_sample a.now b.now) 0 n }
 {
-    (0..n).filter(|i| is_same_sample(a, b, *i)).count()
+    let mut same: usize = 0;
+    for i in 0..n {
+        if is_same_sample(a, b, i) {
+            same += 1;
+        }
+    }
+    same
 }
 
 // Counts the first n samples that are the same in both.

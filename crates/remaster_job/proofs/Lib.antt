@@ -1,2 +1,3 @@
--- What the proofs share: half of a sample, and samples halved one by one.
+-- What the proofs share: half of a sample, samples halved one by one, and the report out of its parts.
 pub mod Halves
+pub mod Stages

@@ -1,5 +1,5 @@
 // What the list puts into the two spaces, and where it stands.
-ghost use Rattle.std.specs.Prelude.{◌≡◌, take};
+ghost use Rattle.std.specs.Prelude.{◌≡◌, take, replicate, pos};
 ghost use Rattle.replay.specs.Places.{start_of};
 ghost use Rattle.replay.specs.Spaces.{kept};
 
@@ -117,8 +117,12 @@ fn place_after<R: Read>(list: &mut R, kind: Kind, place: Place) -> io::Result<Pl
 }
 
 impl Spaces {
-    // Before the first item.
-    pub fn new() -> Spaces {
+    // Before the first item: zeros.
+    pub fn new() -> Spaces
+        ensures bytes { (result.file ≡ replicate 16384 0) × (result.samples ≡ replicate 16384 0)
+            × (result.read ≡ replicate 16384 0) × (result.written ≡ replicate 16384 0) }
+        ensures words { result.words ≡ replicate 4096 (pos 0) }
+    {
         Spaces {
             file: [0; SPACE],
             samples: [0; SPACE],

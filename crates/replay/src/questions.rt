@@ -1,5 +1,5 @@
 // The questions of the list, each in as much room as it says.
-ghost use Rattle.std.specs.Prelude.{◌≡◌};
+ghost use Rattle.std.specs.Prelude.{◌≡◌, take};
 ghost use Rattle.replay.specs.Places.{spec_of, place_after};
 
 use crate::items::{NOWHERE, Place, Spaces, part};
@@ -21,7 +21,9 @@ fn spec_of(place: Place) -> PcmSpec
 }
 
 // So much of the room, or all where there is less.
-fn lent<T>(room: &mut [T], n: usize) -> &mut [T] {
+fn lent<T>(room: &mut [T], n: usize) -> &mut [T]
+    ensures { result.now ≡ take n room.old }
+{
     let n = n.min(room.len());
     &mut room[..n]
 }

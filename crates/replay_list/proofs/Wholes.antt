@@ -1,5 +1,5 @@
--- A room of bytes is the bytes of its samples, and what lies behind them.
-use Rattle.std.proofs.Common.{◌≡◌, ℕ, ◌*◌, ◌/◌, List, [], ◌++◌, length, drop, ℤ, sym, refl, ap, ◌∙◌, append-nil, arith, length-set, drop_of_length-le}
+-- A room of bytes is the bytes of its samples, and what lies behind them; calls that are asked in one.
+use Rattle.std.proofs.Common.{◌≡◌, ℕ, ◌*◌, ◌/◌, Bool, List, [], ◌++◌, length, drop, ℤ, sym, refl, ap, ◌∙◌, append-nil, arith, length-set, drop_of_length-le}
 use Rattle.format.specs.Lists.{over}
 use Rattle.format.specs.Numbers.{Below}
 use Rattle.format.specs.Boundary.{samples_from, sample_bytes}
@@ -8,7 +8,9 @@ use Rattle.laws.proofs.SampleBytes.{sample_bytes_length}
 use Rattle.lent_samples.proofs.Laws.{length_lent}
 use Rattle.lent_samples.proofs.Outcome.{bytes_over}
 use Rattle.replay_list.specs.Room.{mark_of, marked, spoiled_at}
-use Rattle.replay_list.specs.Bytes.{marked_bytes, spoiled_bytes}
+use Rattle.replay_list.specs.Bytes.{marked_bytes, spoiled_bytes, is_answered}
+use Rattle.replay_list.specs.declared.answers.Recorded.{Recorded}
+use Rattle.replay_list.specs.declared.answers.Said.{Said}
 
 module _ (b d : List ℕ) (hd : Below 256 d) (rest : drop (length d / 4 * 4) d ≡ drop (length b / 4 * 4) b) where
   -- all samples of b are replaced
@@ -32,3 +34,9 @@ module _ (b d : List ℕ) (hd : Below 256 d) (rest : drop (length d / 4 * 4) d �
   pub spoilt_bytes : (place : ℕ) → samples_from d ≡ spoiled_at place (samples_from b) → d ≡ spoiled_bytes place b
   unfolding spoiled_bytes
   spoilt_bytes place e = whole (spoiled_at place (samples_from b)) (length-set (samples_from b) place _) e
+
+-- the room is filled, a call is asked, and its answer is judged
+pub asked_bytes : (told : List ℕ → Said) (put : List ℕ → List ℕ) (room lent written after : List ℕ) (said : Said) (spoiled : ℕ) (want : Recorded) (same : Bool)
+    → lent ≡ marked_bytes room → said ≡ told lent → written ≡ put lent → (same ≡ is_answered said written spoiled want) × (after ≡ spoiled_bytes spoiled written)
+    → (same ≡ is_answered (told (marked_bytes room)) (put (marked_bytes room)) spoiled want) × (after ≡ spoiled_bytes spoiled (put (marked_bytes room)))
+asked_bytes told put room lent written after said spoiled want same e f g a = (a.0 ∙ rw (g, f, e) refl, a.1 ∙ rw (g, e) refl)

@@ -1,2 +1,4 @@
 -- What the proofs share.
 pub mod Ways
+-- by hand: what a walk owns
+pub mod Owned

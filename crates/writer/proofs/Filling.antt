@@ -14,7 +14,7 @@ use Rattle.laws.proofs.Written.{entries_length}
 use Rattle.laws.proofs.Parts.{one_more, length_mono}
 
 -- the table's first k entries
-abbrev entries : (ℕ → List ℕ) → ℕ → List ℕ
+abbrev pub entries : (ℕ → List ℕ) → ℕ → List ℕ
 entries P k = joined (λ g. le 4 (length (joined P g))) k
 
 -- of n groups the first g, from the data offset on, and the first k entries, put into s
